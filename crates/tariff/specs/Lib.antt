@@ -1,0 +1,4 @@
+pub mod Prices
+pub mod Weights
+pub mod Held
+pub mod Shown
