@@ -3,6 +3,7 @@
 
 check.py            compare all, and say so
 check.py --write    write what the checker prints into the stored outputs
+check.py --inputs   write the stored dialogues anew
 check.py NAME       print what the checker prints for the program NAME
 """
 
@@ -10,25 +11,38 @@ import pathlib
 import sys
 
 import cases
+import console
+import dialogues
 import ratecard
 
 ROOT = pathlib.Path(__file__).resolve().parent.parent
-PROGRAMS = {"cases": cases.printout, "ratecard": ratecard.printout}
 
 
-def text(name):
-    return "".join(line + "\n" for line in PROGRAMS[name]())
+def folder(name):
+    return ROOT / "crates" / name
 
 
-def stored(name):
-    return ROOT / "crates" / name / "stdout"
+def given(name):
+    return (folder(name) / "stdin").read_bytes()
+
+
+def lines(printout):
+    return "".join(line + "\n" for line in printout)
+
+
+PROGRAMS = {
+    "cases": lambda: lines(cases.printout()),
+    "console": lambda: console.respond(given("console")),
+    "ratecard": lambda: lines(ratecard.printout()),
+    "replay": lambda: lines(dialogues.replayed(given("replay"))),
+}
 
 
 def compare():
     same = True
-    for name in sorted(PROGRAMS):
-        path = stored(name)
-        if path.is_file() and path.read_text() == text(name):
+    for name, text in sorted(PROGRAMS.items()):
+        path = folder(name) / "stdout"
+        if path.is_file() and path.read_text() == text():
             print(f"checker: {name}: the stored output is what the checker prints")
         else:
             print(f"checker: {name}: the stored output DIFFERS from what the checker prints")
@@ -40,11 +54,14 @@ def main(words):
     if not words:
         return 0 if compare() else 1
     if words == ["--write"]:
-        for name in PROGRAMS:
-            stored(name).write_text(text(name))
+        for name, text in PROGRAMS.items():
+            (folder(name) / "stdout").write_text(text())
+        return 0
+    if words == ["--inputs"]:
+        (folder("replay") / "stdin").write_bytes(dialogues.stored())
         return 0
     if len(words) == 1 and words[0] in PROGRAMS:
-        sys.stdout.write(text(words[0]))
+        sys.stdout.write(PROGRAMS[words[0]]())
         return 0
     sys.stderr.write(__doc__)
     return 2

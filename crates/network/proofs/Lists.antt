@@ -2,9 +2,9 @@
 use mathlib.Core.Bool.{Bool, true, _&&_}
 use mathlib.Core.List.{List, [], _∷_, _++_}
 use mathlib.Core.Path.{_≡_, refl}
-use Prim.Native.Nat.{ℕ, _+_, _<_, _≤_}
+use Prim.Native.Nat.{ℕ, zero, suc, _+_, _<_, _≤_}
 use native.Mathlib.Omega.{arith}
-use lib.ListN.{length, getD, drop}
+use lib.ListN.{length, getD, take, drop}
 use Rattle.std.proofs.shelf.Lists.{at-drop-more, at-drop-all}
 use Rattle.std.proofs.shelf.Tests.{and-parts, and-from}
 use Rattle.std.proofs.shelf.Ways.{tells}
@@ -33,3 +33,17 @@ below-none n ls i h = at-drop-all (all-below n) ls i h
 -- a list whose lines have room has it at each line
 pub roomy-at : (ls : List Line) → all-in-range 1 ls ≡ true → (k : ℕ) → k < length ls → 1 ≤ getD ls k no-line .terms .room
 roomy-at ls r k h = let p = passes-at (λ x. in-range 1 (x .terms)) ls k r h in grind (arith, tells)
+
+-- what passes for each line of a list passes for each of its first lines
+passes-take : (test : Line → Bool) (count : ℕ) (ls : List Line) → each-passes test ls ≡ true → each-passes test (take count ls) ≡ true
+passes-take test zero ls p = refl
+passes-take test (suc count) [] p = refl
+passes-take test (suc count) (l ∷ ls) p =
+    let q = and-parts (test l) (each-passes test ls) p in
+    and-from (test l) (each-passes test (take count ls)) (q .0) (passes-take test count ls (q .1))
+
+pub below-take : (n count : ℕ) (ls : List Line) → all-below n ls ≡ true → all-below n (take count ls) ≡ true
+below-take n count ls p = passes-take (ends-below n) count ls p
+
+pub in-range-take : (least count : ℕ) (ls : List Line) → all-in-range least ls ≡ true → all-in-range least (take count ls) ≡ true
+in-range-take least count ls p = passes-take (λ x. in-range least (x .terms)) count ls p

@@ -3,7 +3,7 @@ use mathlib.Core.Bool.{_&&_}
 use mathlib.Core.List.{List, [], _∷_, _++_}
 use Prim.Native.Nat.{ℕ}
 use lib.Dec.{leb, ltb}
-use lib.ListN.{length}
+use lib.ListN.{length, take}
 use Rattle.std.specs.declared.result.Result.{Result}
 use Rattle.network.specs.declared.line.Line.{Line}
 use Rattle.network.specs.Net.{Net, in-range, all-below}
@@ -36,3 +36,7 @@ points-taken d n = judged (points-questions d n) (record { points = n; lines = d
 -- The draft with one line more at its end, or the refusal.
 abbrev pub line-taken : Net → Line → Result Net ℕ
 line-taken d l = judged (line-questions d l) (record { points = d .points; lines = d .lines ++ (l ∷ []) })
+
+-- The draft with its first lines alone.
+abbrev pub first-kept : Net → ℕ → Net
+first-kept d count = record { points = d .points; lines = take count (d .lines) }

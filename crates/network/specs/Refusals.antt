@@ -49,16 +49,16 @@ judged [] a = Ok a
 judged (q ∷ qs) a = cond (q .yes) (judged qs a) (Err (q .number))
 
 -- What a call answers that makes a new state or refuses.
-abbrev pub answered : {A : Type 0} → Result A ℕ → Result (Unit {0}) ℕ
+abbrev pub answered : {A E : Type 0} → Result A E → Result (Unit {0}) E
 answered (Ok a) = Ok tt
-answered (Err n) = Err n
+answered (Err e) = Err e
 
 -- What it leaves: the new state, or after a refusal the old one.
-abbrev pub left-by : {A : Type 0} → A → Result A ℕ → A
+abbrev pub left-by : {A E : Type 0} → A → Result A E → A
 left-by old (Ok new) = new
-left-by old (Err n) = old
+left-by old (Err e) = old
 
 -- A result with what its value means.
-abbrev pub with-value : {A B : Type 0} → (A → B) → Result A ℕ → Result B ℕ
+abbrev pub with-value : {A B E : Type 0} → (A → B) → Result A E → Result B E
 with-value f (Ok a) = Ok (f a)
-with-value f (Err n) = Err n
+with-value f (Err e) = Err e

@@ -8,7 +8,7 @@ ghost use Rattle.std.specs.Of.Vec.{vec-items, vec-len};
 ghost use Rattle.std.specs.Vec.{made};
 ghost use Rattle.network.specs.Net.{all-below, ends-below, in-range, line-at};
 ghost use Rattle.network.specs.Refusals.{numbered, judged, answered, left-by};
-ghost use Rattle.network.specs.Drafts.{new-draft, line-taken, points-taken, points-questions, end-question, more-question};
+ghost use Rattle.network.specs.Drafts.{first-kept, new-draft, line-taken, points-taken, points-questions, end-question, more-question};
 ghost use Rattle.network.specs.Held.{drawn, sealed-net};
 use crate::draft::Draft;
 use crate::line::Line;
@@ -24,6 +24,27 @@ impl Draft {
     {
         let lines = Vec::with_capacity(heap, 512)?;
         Ok(Draft { points: 2, lines })
+    }
+
+    /// How many points the draft has.
+    pub fn points(&self) -> u32
+        ensures { λ r. ⌜ r ≡ drawn (now (self .entry)) .points ⌝ }
+    {
+        self.points
+    }
+
+    /// How many lines the draft holds.
+    pub fn line_count(&self) -> usize
+        ensures { λ r. ⌜ r ≡ length (drawn (now (self .entry)) .lines) ⌝ }
+    {
+        self.lines.len()
+    }
+
+    /// Keeps the first `count` lines and lets the others go.
+    pub fn keep_first(&mut self, count: usize)
+        ensures { λ _. ⌜ drawn (now (self .exit)) ≡ first-kept (drawn (now (self .entry))) count ⌝ }
+    {
+        self.lines.truncate(count);
     }
 
     /// Whether the draft could have `n` points: 4 if that is out of range, 5 if a line that it holds has an end not below `n`.

@@ -1,0 +1,4 @@
+pub mod Laws
+pub mod Best
+pub mod Front
+pub mod Values

@@ -1,0 +1,10 @@
+pub mod Scans
+pub mod Same
+pub mod Cuts
+pub mod Named
+pub mod Slots
+pub mod Growing
+pub mod Order
+pub mod Shaped
+pub mod Whole
+pub mod Spoken

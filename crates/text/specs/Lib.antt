@@ -1,0 +1,12 @@
+pub mod Items
+pub mod Tokens
+pub mod Names
+pub mod Gives
+pub mod ToCome
+pub mod Grammar
+pub mod Shapes
+pub mod Faults
+pub mod Reads
+pub mod Listing
+pub mod Rule
+pub mod Commands
