@@ -1,9 +1,11 @@
 //! The whole response to an input.
 ghost use mathlib.Core.List.{_++_};
 ghost use mathlib.Core.Path.{_≡_};
+ghost use lib.Chars.{codes};
 ghost use Rattle.std.specs.Of.String.{string-bytes};
 ghost use Rattle.std.specs.Vec.{made};
 ghost use Rattle.network.specs.Held.{sealed-net};
+ghost use Rattle.text.specs.Listing.{fault-of, fault-text};
 ghost use Rattle.dialogue.specs.Parts.{lines-of};
 ghost use Rattle.dialogue.specs.Responses.{replies, response};
 use crate::parts::line_and_rest;
@@ -14,6 +16,7 @@ use network::Draft;
 use network::SealedList;
 use std::alloc::AllocError;
 use std::alloc::Global;
+use text::TextFault;
 use text::TextFaultDisplay;
 use text::read_list;
 
@@ -25,8 +28,15 @@ pub fn respond(heap: Global, input: &[u8]) -> Result<String, AllocError>
     let mut draft = Draft::new(heap)?;
     match read_list(list, &mut draft) {
         Ok(()) => reply_all(heap, &draft.seal(), commands),
-        Err(fault) => format!(heap, "{fault}\n"),
+        Err(fault) => fault_line(heap, fault),
     }
+}
+
+/// A fault, on a line.
+fn fault_line(heap: Global, fault: TextFault) -> Result<String, AllocError>
+    ensures { λ r. ⌜ made r (λ t. string-bytes t ≡ fault-text (fault-of fault) ++ codes "\n") ⌝ }
+{
+    format!(heap, "{fault}\n")
 }
 
 /// The replies to commands, each on a line.

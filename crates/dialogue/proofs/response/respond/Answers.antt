@@ -22,4 +22,4 @@ returns-in-Err c =
     let p = c .list-and-commands .ensures in
     let d = drawn (c .in-Continue-draft .draft) in
     let e = response-err (c .args .input .now) (c .list-and-commands .result .0 .now) (c .list-and-commands .result .1 .now) d (p .list) (p .commands) (c .in-Continue-draft .ensures tt) (fault-of (c .in-Err .fault)) (h .answer) in
-    made-weaker (c .format .result) _ (λ t. string-bytes t ≡ response (c .args .input .now)) (λ t k. k ∙ sym e) (c .format .ensures .made)
+    made-weaker (c .fault-line .result) _ (λ t. string-bytes t ≡ response (c .args .input .now)) (λ t k. k ∙ sym e) (c .fault-line .ensures)
