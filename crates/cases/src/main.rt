@@ -1,4 +1,6 @@
 //! Runs the worked cases of the table through the code, and prints what each gives beside what it should give.
+#![tactic(auto)]
+
 mod tariffs;
 mod worked;
 

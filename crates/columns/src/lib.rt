@@ -1,5 +1,7 @@
 //! The column search: for each point and each total weight the least delay of a run, the least weight that keeps a delay
 //! limit, and the run traced from there.
+#![tactic(auto)]
+
 mod fill;
 mod find;
 pub mod question;

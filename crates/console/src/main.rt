@@ -1,4 +1,6 @@
 //! The console: reads a list and commands from standard input, and prints the answers.
+#![tactic(auto)]
+
 use dialogue::respond;
 use std::io;
 use std::io::Read;

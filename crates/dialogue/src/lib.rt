@@ -1,4 +1,6 @@
 //! All of the console but its input and output: from the bytes of an input to the text of its answers.
+#![tactic(auto)]
+
 pub mod parts;
 pub mod reply;
 pub mod response;

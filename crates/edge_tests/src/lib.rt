@@ -1,4 +1,6 @@
 //! Tests of the library at the edges of its ranges, on both sides.
+#![tactic(auto)]
+
 #[cfg(test)]
 mod drafts;
 #[cfg(test)]

@@ -1,4 +1,6 @@
 //! The bookings that stand, and the load that they put on each line.
+#![tactic(auto)]
+
 pub mod booking;
 pub mod claim;
 pub mod ledger;

@@ -1,4 +1,6 @@
 //! The route method: from the bottleneck price to a run that is near the cheapest.
+#![tactic(auto)]
+
 mod bottleneck;
 mod bounds;
 pub mod cheapest;

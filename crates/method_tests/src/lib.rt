@@ -1,4 +1,6 @@
 //! Tests of the route method at the edges of its questions, on both sides.
+#![tactic(auto)]
+
 #[cfg(test)]
 mod questions;
 #[cfg(test)]

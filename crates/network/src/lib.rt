@@ -1,4 +1,6 @@
 //! Networks of leased lines: what a network is to whoever asks it, and the ways to make one.
+#![tactic(auto)]
+
 pub mod draft;
 pub mod interface;
 pub mod line;

@@ -1,4 +1,6 @@
 //! Prints a rate card: what each line of a small studio network, and of a ring, costs under every tariff.
+#![tactic(auto)]
+
 mod card;
 mod stop;
 mod studio;

@@ -1,4 +1,6 @@
 //! Replays stored dialogues: standard input has for each its length in bytes on a line, and then its bytes.
+#![tactic(auto)]
+
 ghost use Rattle.std.specs.Prelude.{◌≤◌, length};
 
 use dialogue::{line_and_rest, respond};

@@ -1,4 +1,6 @@
 //! What a search over a network sees: its lines as arcs, each open or not, copied once into a table of fixed size.
+#![tactic(auto)]
+
 pub mod arc;
 pub mod arcs;
 

@@ -1,4 +1,6 @@
 //! The line selector: routes and bookings over any network and tariff.
+#![tactic(auto)]
+
 pub mod ask;
 pub mod booked;
 mod pricing;

@@ -1,4 +1,6 @@
 //! The best values of runs, worked out by one sweep for every grading: the least delay, and the largest room.
+#![tactic(auto)]
+
 pub mod delay;
 pub mod grading;
 pub mod room;

@@ -1,4 +1,6 @@
 //! Tariffs: what a line costs.
+#![tactic(auto)]
+
 pub mod balanced;
 pub mod interface;
 pub mod period;

@@ -1,4 +1,6 @@
 //! Reads list texts into drafts, and command texts into commands; a text that can't be read is answered by its fault.
+#![tactic(auto)]
+
 pub mod commands;
 pub mod fault;
 mod forms;

@@ -7,5 +7,5 @@ pub loop-rest-smaller : goal.loop-rest-smaller
 loop-rest-smaller c =
     let rest = c.loop-rest.rest.now in
     let h : 0 < length rest = grind (arith, nat_tests) in
-    let e = ap length c.line-and-rest.ensures.rest in
+    let e = ap length c.line_and_rest.ensures.rest in
     omega (arith, e, after_shorter rest h)

@@ -6,8 +6,8 @@ use Rattle.columns.proofs.Tables.{only_set, blank_more, column_more}
 use Rattle.columns.proofs.fill.blank.Goals as goal
 use Rattle.columns.proofs.fill.blank.Goals.{then-v-s, else-v-s}
 
-pub offset-bounds-cells-v : goal.offset-bounds-cells-v
-offset-bounds-cells-v c = omega (arith, mul-add-lt c.loop-v.v c.args.width c.args.c c.args.n (omega arith) c.requires.within)
+pub offset_bounds-cells-v : goal.offset_bounds-cells-v
+offset_bounds-cells-v c = omega (arith, mul-add-lt c.loop-v.v c.args.width c.args.c c.args.n (omega arith) c.requires.within)
 
 pub bounds-cells-v : goal.bounds-cells-v
 bounds-cells-v c = omega (arith, mul-add-lt c.loop-v.v c.args.width c.args.c c.args.n (omega arith) c.requires.within)

@@ -10,8 +10,8 @@ is c = step_is c.args.search.now c.args.steps.now c.requires.steps c.args.i c.re
 pub returns-then-w-c : goal.returns-then-w-c
 returns-then-w-c c = offer_far c.args.search.now c.args.c c.args.i _ (is c) c.requires.within.0 c.if-w-c.true
 
-pub offset-bounds-cells-step : goal.offset-bounds-cells-step
-offset-bounds-cells-step c =
+pub offset_bounds-cells-step : goal.offset_bounds-cells-step
+offset_bounds-cells-step c =
     let e = step_is c.args.search.now c.args.steps.now c.requires.steps c.args.i c.requires.within.1 in
     omega (arith, offer_in c.args.search.now c.args.c c.args.i _ e c.requires.within.0 c.args.cells.now c.requires.room c.requires.held c.if-w-c.false)
 
@@ -20,8 +20,8 @@ bounds-cells-step c =
     let e = step_is c.args.search.now c.args.steps.now c.requires.steps c.args.i c.requires.within.1 in
     offer_in c.args.search.now c.args.c c.args.i _ e c.requires.within.0 c.args.cells.now c.requires.room c.requires.held c.if-w-c.false
 
-pub overflow-add-result : goal.overflow-add-result
-overflow-add-result c =
+pub overflow_add-result : goal.overflow_add-result
+overflow_add-result c =
     let e = step_is c.args.search.now c.args.steps.now c.requires.steps c.args.i c.requires.within.1 in
     omega (arith, offer_fits c.args.search.now c.args.c c.args.i _ e c.requires.within.0 c.args.cells.now c.requires.room c.requires.held c.if-w-c.false _ refl c.if-d.false)
 

@@ -30,14 +30,14 @@ returns-then-to-search c =
       beyond = λ k h. refl;
     }
 
-pub offset-bounds-cells-p : goal.offset-bounds-cells-p
-offset-bounds-cells-p c = omega (arith, place c.args.search.now c.args.steps.now c.requires.steps c.args.i c.requires.within.1 c.args.c c.args.cells.now c.requires.within.0 c.requires.room)
+pub offset_bounds-cells-p : goal.offset_bounds-cells-p
+offset_bounds-cells-p c = omega (arith, place c.args.search.now c.args.steps.now c.requires.steps c.args.i c.requires.within.1 c.args.c c.args.cells.now c.requires.within.0 c.requires.room)
 
 pub bounds-cells-p : goal.bounds-cells-p
 bounds-cells-p c = place c.args.search.now c.args.steps.now c.requires.steps c.args.i c.requires.within.1 c.args.c c.args.cells.now c.requires.within.0 c.requires.room
 
-pub offset-bounds-cells-p-then-d-cells : goal.offset-bounds-cells-p-then-d-cells
-offset-bounds-cells-p-then-d-cells c = omega (arith, place c.args.search.now c.args.steps.now c.requires.steps c.args.i c.requires.within.1 c.args.c c.args.cells.now c.requires.within.0 c.requires.room)
+pub offset_bounds-cells-p-then-d-cells : goal.offset_bounds-cells-p-then-d-cells
+offset_bounds-cells-p-then-d-cells c = omega (arith, place c.args.search.now c.args.steps.now c.requires.steps c.args.i c.requires.within.1 c.args.c c.args.cells.now c.requires.within.0 c.requires.room)
 
 pub bounds-cells-p-then-d-cells : goal.bounds-cells-p-then-d-cells
 bounds-cells-p-then-d-cells c = place c.args.search.now c.args.steps.now c.requires.steps c.args.i c.requires.within.1 c.args.c c.args.cells.now c.requires.within.0 c.requires.room

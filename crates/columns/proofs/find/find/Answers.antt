@@ -7,8 +7,8 @@ use Rattle.columns.proofs.Founds.{found_is, found_none}
 use Rattle.columns.proofs.Tables.{place_in}
 use Rattle.columns.proofs.find.find.Goals as goal
 
-pub offset-bounds-cells-row : goal.offset-bounds-cells-row
-offset-bounds-cells-row c =
+pub offset_bounds-cells-row : goal.offset_bounds-cells-row
+offset_bounds-cells-row c =
     let x = c.args.search.now in
     omega (arith, place_in (points (net_of x)) x.width (length c.args.cells.now) c.requires.room x.question.to c.loop-c.c x.question.to_below c.loop-c-test.true)
 

@@ -9,8 +9,8 @@ use Rattle.columns.proofs.Traces.{lowest_is, lowest_none}
 use Rattle.columns.proofs.trace.pick.Goals as goal
 use Rattle.columns.proofs.trace.pick.Goals.{else-steps-i-via-then-steps-i+else-reach-d, else-steps-i-via-else-steps-i}
 
-pub offset-bounds-cells-v : goal.offset-bounds-cells-v
-offset-bounds-cells-v c =
+pub offset_bounds-cells-v : goal.offset_bounds-cells-v
+offset_bounds-cells-v c =
     let x = c.args.search.now in
     omega (arith, place_in (points (net_of x)) x.width (length c.args.cells.now) c.requires.room c.args.v c.args.c c.requires.within.1 c.requires.within.0)
 

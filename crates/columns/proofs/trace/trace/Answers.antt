@@ -5,6 +5,6 @@ use Rattle.columns.proofs.trace.trace.Goals as goal
 
 pub returns : goal.returns
 returns c =
-    let walked = c.walk-back-count.new.lines in
-    let e = c.walk-back-count.ensures in
-    placed_is c.walk-back-count.result walked c.turn.new.lines (traced_of c.args.search.now c.args.found) e.few c.walk-back-count.auto.lines e.route e.rest c.turn.ensures
+    let walked = c.walk_back-count.new.lines in
+    let e = c.walk_back-count.ensures in
+    placed_is c.walk_back-count.result walked c.turn.new.lines (traced_of c.args.search.now c.args.found) e.few c.walk_back-count.auto.lines e.route e.rest c.turn.ensures

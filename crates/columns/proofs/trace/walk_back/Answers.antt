@@ -58,8 +58,8 @@ loop-v-init c =
       c.requires.empty,
     )
 
-pub overflow-cast-lines : goal.overflow-cast-lines
-overflow-cast-lines c =
+pub overflow_cast-lines : goal.overflow_cast-lines
+overflow_cast-lines c =
     let x = c.args.search.now in
     omega (
       arith,
@@ -74,8 +74,8 @@ bounds-lines-count c =
     let l : length c.loop-v.lines ≡ 63 = c.loop-v.auto.lines ∙ long c.args.lines.now c.requires.empty in
     omega (arith, l, room x c.args.found c.requires.found c.loop-v.v c.loop-v.c c.loop-v.count c.loop-v.lines c.loop-v.invariant.0 l c.loop-v-test.true)
 
-pub offset-bounds-steps-k : goal.offset-bounds-steps-k
-offset-bounds-steps-k c =
+pub offset_bounds-steps-k : goal.offset_bounds-steps-k
+offset_bounds-steps-k c =
     let x = c.args.search.now in
     omega (arith, in_steps x c.args.found c.requires.found c.loop-v.v c.loop-v.c c.loop-v.count c.loop-v.lines c.loop-v.invariant.0 c.loop-v-test.true c.pick-k.result c.pick-k.ensures c.args.steps.now c.requires.steps)
 
@@ -84,8 +84,8 @@ bounds-steps-k c =
     let x = c.args.search.now in
     in_steps x c.args.found c.requires.found c.loop-v.v c.loop-v.c c.loop-v.count c.loop-v.lines c.loop-v.invariant.0 c.loop-v-test.true c.pick-k.result c.pick-k.ensures c.args.steps.now c.requires.steps
 
-pub overflow-sub-c : goal.overflow-sub-c
-overflow-sub-c c =
+pub overflow_sub-c : goal.overflow_sub-c
+overflow_sub-c c =
     let x = c.args.search.now in
     omega (
       arith,

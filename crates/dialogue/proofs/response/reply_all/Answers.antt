@@ -11,18 +11,18 @@ pub loop-rest-smaller : goal.loop-rest-smaller
 loop-rest-smaller c =
     let rest = c.loop-rest.rest.now in
     let h : 0 < length rest = grind (arith, nat_tests) in
-    let e = ap length c.line-and-rest.ensures.rest in
+    let e = ap length c.line_and_rest.ensures.rest in
     omega (arith, e, after_shorter rest h)
 
 pub loop-rest-preserved : goal.loop-rest-preserved
 loop-rest-preserved c =
     let net = sealed_net c.args.network.now in
     let rest = c.loop-rest.rest.now in
-    let more = c.line-and-rest.result.1.now in
+    let more = c.line_and_rest.result.1.now in
     let h : 0 < length rest = grind (arith, nat_tests) in
-    let answer = c.as-str.ensures.value ∙ c.in-ok-answer.ensures.ok ∙ ap (λ (x : List ℕ). x ++ 10 ∷ []) (c.reply-to-reply.ensures ∙ ap (replied net) c.line-and-rest.ensures.line) in
-    ap (λ (x : List ℕ). x ++ replies net (lines_of more)) c.in-ok-push-str.ensures.bytes
-    ∙ replies_more net (string_bytes c.loop-rest.text) c.as-str.result.now more rest _ h c.loop-rest.invariant answer c.line-and-rest.ensures.rest
+    let answer = c.as_str.ensures.value ∙ c.in_ok-answer.ensures.ok ∙ ap (λ (x : List ℕ). x ++ 10 ∷ []) (c.reply_to-reply.ensures ∙ ap (replied net) c.line_and_rest.ensures.line) in
+    ap (λ (x : List ℕ). x ++ replies net (lines_of more)) c.in_ok-push_str.ensures.bytes
+    ∙ replies_more net (string_bytes c.loop-rest.text) c.as_str.result.now more rest _ h c.loop-rest.invariant answer c.line_and_rest.ensures.rest
 
 pub returns : goal.returns
 returns c =

@@ -8,10 +8,10 @@ use Rattle.method.proofs.bottleneck.bottleneck.Goals as goal
 pub lowest-requires : goal.lowest-requires
 lowest-requires c =
     let x = c.args.question.now in
-    let copied = c.copy-prices-prices.result in
+    let copied = c.copy_prices-prices.result in
     let listed = c.sort.new.self in
     let m : ℕ = length (graph x.arcs).arcs in
     let e : c.count-count.result - 0 ≡ m = omega (arith, c.count-count.ensures) in
     let moved : IsPermutation (take m copied) listed = subst (λ (j : ℕ). IsPermutation (take j copied) listed) e c.sort.ensures.permutation in
-    sorted_ordered x copied listed (omega (arith, c.copy-prices-prices.ensures.whole, (sound x.arcs).few)) c.copy-prices-prices.ensures.prices moved
+    sorted_ordered x copied listed (omega (arith, c.copy_prices-prices.ensures.whole, (sound x.arcs).few)) c.copy_prices-prices.ensures.prices moved
     (IsNonDecreasingBy-from_sort (λ (y : ℕ). y) listed c.sort.ensures.sorted)

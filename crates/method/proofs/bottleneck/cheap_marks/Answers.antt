@@ -15,8 +15,8 @@ loop-k-preserved c =
     let g = graph c.args.arcs.now in
     let h = c.args.h in
     let within : k < length ms = omega (arith, c.loop-k.invariant.0) in (
-      length-set ms k c.is-cheap.result ∙ c.loop-k.invariant.0,
-      filled_more (λ i. (arc_at g i).«open» && leb (arc_at g i).price h) ms k c.is-cheap.result false within c.loop-k.invariant.1 (c.is-cheap.ensures ∙ ap (λ (a : Arc). a.«open» && leb a.price h) c.arc.ensures),
+      length-set ms k c.is_cheap.result ∙ c.loop-k.invariant.0,
+      filled_more (λ i. (arc_at g i).«open» && leb (arc_at g i).price h) ms k c.is_cheap.result false within c.loop-k.invariant.1 (c.is_cheap.ensures ∙ ap (λ (a : Arc). a.«open» && leb a.price h) c.arc.ensures),
     )
 
 pub returns : goal.returns

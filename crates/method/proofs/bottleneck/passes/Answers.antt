@@ -13,7 +13,7 @@ returns-in-Ok c =
     let g = graph x.arcs in
     let best : Option ℕ = get_or c.sweep.new.best x.to None in
     let at : BestAt delay_ops (arc_at g) (Allowed g (cheap_marks g c.args.h)) x.from x.to best =
-    subst (λ (ms : List Bool). BestAt delay_ops (arc_at g) (Allowed g ms) x.from x.to best) c.cheap-marks-marks.ensures (c.in-Ok.ensures.best refl x.to x.to_below) in
+    subst (λ (ms : List Bool). BestAt delay_ops (arc_at g) (Allowed g ms) x.from x.to best) c.cheap_marks-marks.ensures (c.in-Ok.ensures.best refl x.to x.to_below) in
     record {
       yes = λ e. swept_yes x c.args.h best at (sym c.keeps.ensures ∙ e);
       no = λ e. swept_no x c.args.h best at (sym c.keeps.ensures ∙ e);

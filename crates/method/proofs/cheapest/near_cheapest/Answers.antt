@@ -5,13 +5,13 @@ use Rattle.method.specs.Told.{told, route_after}
 use Rattle.method.proofs.Answered.{is_bottleneck, says_of, none_answer, none_cells, some_answer, some_cells, some_room}
 use Rattle.method.proofs.cheapest.near_cheapest.Goals as goal
 
-pub returns-in-default : goal.returns-in-default
-returns-in-default c =
+pub returns-in_default : goal.returns-in_default
+returns-in_default c =
     let x = c.args.question in
     let m = c.args.margin in
     let old = c.args.cells.now in
     let room : Suffices (asked_with x m) old = search rules in
-    let e : bottleneck (asked_with x m) ≡ None = is_bottleneck x m None (c.in-default.ensures m.p m.q) in
+    let e : bottleneck (asked_with x m) ≡ None = is_bottleneck x m None (c.in_default.ensures m.p m.q) in
     let answer = none_answer x m old room e in
     record {
       answer = answer;

@@ -3,8 +3,8 @@ use Rattle.std.proofs.lemmas.Nat.{mul-le}
 use Rattle.method.proofs.Weights.{root_one}
 use Rattle.method.proofs.narrow.half_root.Goals as goal
 
-pub overflow-mul-middle-in-loop-high : goal.overflow-mul-middle-in-loop-high
-overflow-mul-middle-in-loop-high c =
+pub overflow_mul-middle-in-loop-high : goal.overflow_mul-middle-in-loop-high
+overflow_mul-middle-in-loop-high c =
     let m : ℕ = (c.loop-high.low + c.loop-high.high) / 2 in
     let h : m ≤ 33554432 = omega arith in
     omega (arith, mul-le m m 33554432 33554432 h h)

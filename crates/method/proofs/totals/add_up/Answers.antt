@@ -4,13 +4,13 @@ use Rattle.priced_runs.specs.Held.{graph, sound}
 use Rattle.priced_runs.proofs.Walks.{total_more}
 use Rattle.method.proofs.totals.add_up.Goals as goal
 
-pub overflow-add-price : goal.overflow-add-price
-overflow-add-price c =
+pub overflow_add-price : goal.overflow_add-price
+overflow_add-price c =
     let k = get_or c.args.route.now.lines c.loop-i.i 0 in
     omega (arith, ap (λ a. a.price) c.arc-arc.ensures, (sound c.args.arcs.now).price_most k, c.loop-i.invariant.2, c.loop-i-test.true, c.requires.0)
 
-pub overflow-add-delay : goal.overflow-add-delay
-overflow-add-delay c =
+pub overflow_add-delay : goal.overflow_add-delay
+overflow_add-delay c =
     let k = get_or c.args.route.now.lines c.loop-i.i 0 in
     omega (arith, ap (λ a. a.delay) c.arc-arc.ensures, (sound c.args.arcs.now).delay_most k, c.loop-i.invariant.3, c.loop-i-test.true, c.requires.0)
 

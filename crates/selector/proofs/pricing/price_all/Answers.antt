@@ -18,7 +18,7 @@ loop-k-preserved g c =
     let is : x ≡ price_at prices net k = c.price.ensures ∙ ap (λ (l : Line). prices l.terms.charges) c.line-line.ensures in
     let most : price_at prices net k ≤ 1000000 = (g.T.Tariff.priced c.args.tariff.now).most (line_at net k).terms.charges in
     let inv = c.loop-k.invariant in
-    part_more (price_at prices net) (graph c.args.arcs.now) k (graph c.loop-k.arcs) (graph c.set-price.new.self) x is (omega (arith, is, most)) (omega (arith, inv.long, c.count-count.ensures, c.loop-k-test.true)) inv c.set-price.ensures.after
+    part_more (price_at prices net) (graph c.args.arcs.now) k (graph c.loop-k.arcs) (graph c.set_price.new.self) x is (omega (arith, is, most)) (omega (arith, inv.long, c.count-count.ensures, c.loop-k-test.true)) inv c.set_price.ensures.after
 
 pub returns : goal.returns
 returns g c =

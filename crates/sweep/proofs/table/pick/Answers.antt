@@ -5,7 +5,7 @@ use Rattle.sweep.specs.Front.{Picked}
 use Rattle.sweep.proofs.Basics.{never}
 use Rattle.sweep.proofs.Picks.{picked_pass, picked_take}
 use Rattle.sweep.proofs.table.pick.Goals as goal
-use Rattle.sweep.proofs.table.pick.Goals.{then-not-done-v+in-Some, then-not-done-v+in-default, else-not-done-v}
+use Rattle.sweep.proofs.table.pick.Goals.{then-not-done-v+in-Some, then-not-done-v+in_default, else-not-done-v}
 
 pub loop-v-preserved : goal.loop-v-preserved
 loop-v-preserved g c =
@@ -19,8 +19,8 @@ loop-v-preserved g c =
       | then-not-done-v+in-Some w ↦
           let read = sym (get_or_read b v w.index-best-v.result in-best w.index-best-v.is None) ∙ w.in-Some.is in
           subst (λ f. Picked le (v + 1) d b f) (sym (w.found_is ∙ w.first-found.ensures)) (picked_take laws d b c.loop-v.found v w.in-Some.x c.loop-v.invariant w.if-not-done-v.true read)
-      | then-not-done-v+in-default w ↦
-          let read = sym (get_or_read b v w.index-best-v.result in-best w.index-best-v.is None) ∙ w.in-default.is in
+      | then-not-done-v+in_default w ↦
+          let read = sym (get_or_read b v w.index-best-v.result in-best w.index-best-v.is None) ∙ w.in_default.is in
           subst (λ f. Picked le (v + 1) d b f) (sym w.found_is) (picked_pass laws d b c.loop-v.found v c.loop-v.invariant (λ _. read))
       | else-not-done-v w ↦
           subst (λ f. Picked le (v + 1) d b f) (sym w.found_is) (picked_pass laws d b c.loop-v.found v c.loop-v.invariant (λ e. absurd (both_ways (get_or d v false) e w.if-not-done-v.false)))

@@ -59,7 +59,7 @@ returns g c =
     let good = sound c.args.arcs.now in
     let inv = c.loop-p.invariant in
     let usable = Allowed arcs c.args.allowed.now in
-    let unpicked = subst (λ n. Picked g.G.Grading.ops.le n c.loop-p.done c.loop-p.best None) c.points-n.ensures c.in-default.ensures in
+    let unpicked = subst (λ n. Picked g.G.Grading.ops.le n c.loop-p.done c.loop-p.best None) c.points-n.ensures c.in_default.ensures in
     record {
       best = swept g.met.G.Grading.lawful (arc_at arcs) usable arcs.points c.args.s c.loop-p.done inv.0.0 (length arcs.arcs) inv.0.1 c.loop-p.best (λ j o. o.0) (λ j o. good.from_below j) unpicked inv.0.2;
       short = short g.met.G.Grading.lawful (arc_at arcs) usable arcs.points c.args.s c.loop-p.done inv.0.0 (length arcs.arcs) inv.0.1 c.loop-p.best (λ j o. o.0) (λ j o. good.from_below j) unpicked inv.0.2;

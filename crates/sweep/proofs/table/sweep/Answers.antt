@@ -11,7 +11,7 @@ pub returns : goal.returns
 returns g c =
     let arcs = graph c.args.arcs.now in
     let was = c.args.best.now in
-    let ok = c.in-ok-judge-sweep.ensures in
+    let ok = c.in_ok-judge_sweep.ensures in
     let a = asked (ltb c.args.s arcs.points) 11 tt _ ok in
     let b = asked (leb arcs.points (length was)) 17 tt _ a.1 in
     let sn : c.args.s < arcs.points = ltb-true _ _ a.0 in

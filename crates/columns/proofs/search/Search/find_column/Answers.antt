@@ -8,10 +8,10 @@ returns c =
     let x = c.args.self.now in
     let old = c.args.cells.now in
     let room : size_of x ≤ length old = search rules in
-    let e = c.fill-and-find.ensures in
+    let e = c.fill_and_find.ensures in
     record {
       answer = search rules;
       cells = search rules;
-      least = λ h. searched x old c.fill-and-find.new.cells room c.fill-and-find.auto.cells e.held;
-      says = column_says x c.fill-and-find.result e.column;
+      least = λ h. searched x old c.fill_and_find.new.cells room c.fill_and_find.auto.cells e.held;
+      says = column_says x c.fill_and_find.result e.column;
     }

@@ -26,8 +26,8 @@ raise-requires c =
           omega (arith, c.args.self.now.loaded k (omega arith), load_le k es c.args.self.now.kept, c.args.claim.few);
     }
 
-pub invariant-of-self : goal.invariant-of-self
-invariant-of-self c =
+pub invariant_of-self : goal.invariant_of-self
+invariant_of-self c =
     let was = c.args.self.now in
     let r = c.args.claim.route in
     let es = take was.count was.entries in

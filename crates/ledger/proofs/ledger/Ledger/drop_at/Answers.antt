@@ -32,11 +32,11 @@ module _ (s : Ledger) (i : ℕ) (in' : i < s.count) (long : length s.entries ≡
   share_here k h =
       omega (arith, s.loaded k h, ap (share k) same, get_or-le-sum_by (share k) (take s.count s.entries) i no_booking (omega (arith, all)))
 
-pub overflow-cast-route : goal.overflow-cast-route
-overflow-cast-route c = let s = c.args.self.now in omega (arith, short s c.args.i c.requires (search rules))
+pub overflow_cast-route : goal.overflow_cast-route
+overflow_cast-route c = let s = c.args.self.now in omega (arith, short s c.args.i c.requires (search rules))
 
-pub slice-bounds-lower-end-2 : goal.slice-bounds-lower-end-2
-slice-bounds-lower-end-2 c = let s = c.args.self.now in let h = short s c.args.i c.requires (search rules) in search rules
+pub slice_bounds-lower-end-2 : goal.slice_bounds-lower-end-2
+slice_bounds-lower-end-2 c = let s = c.args.self.now in let h = short s c.args.i c.requires (search rules) in search rules
 
 pub lower-requires : goal.lower-requires
 lower-requires c =
@@ -61,8 +61,8 @@ lower-requires c =
           omega (arith, share_here s i c.requires long x low, cond-true _ e.channels 0 (has_at (lines_of r) j there), ap (λ k. get_or s.loads k 0) y);
     }
 
-pub invariant-of-self : goal.invariant-of-self
-invariant-of-self c =
+pub invariant_of-self : goal.invariant_of-self
+invariant_of-self c =
     let s = c.args.self.now in
     let i = c.args.i in
     let long : length s.entries ≡ 32 = search rules in
@@ -71,7 +71,7 @@ invariant-of-self c =
     let e = get_or s.entries i no_booking in
     let r = e.route in
     let whole : r.count - 0 ≡ r.count = omega arith in
-    let less : take (s.count - 1) c.copy-within.new.self ≡ remove es i = ap (take (s.count - 1)) c.copy-within.ensures.after ∙ shifted s.entries s.count i c.requires (omega (arith, s.few)) in (
+    let less : take (s.count - 1) c.copy_within.new.self ≡ remove es i = ap (take (s.count - 1)) c.copy_within.ensures.after ∙ shifted s.entries s.count i c.requires (omega (arith, s.few)) in (
       omega (arith, s.few),
       (
         longer,
@@ -101,4 +101,4 @@ pub returns : goal.returns
 returns c =
     let s = c.args.self.now in
     let long : length s.entries ≡ 32 = search rules in
-    record { next = refl; entries = ap (take (s.count - 1)) c.copy-within.ensures.after ∙ shifted s.entries s.count c.args.i c.requires (omega (arith, s.few)) }
+    record { next = refl; entries = ap (take (s.count - 1)) c.copy_within.ensures.after ∙ shifted s.entries s.count c.args.i c.requires (omega (arith, s.few)) }

@@ -16,9 +16,9 @@ returns c =
     let inside : place_of n es < length es = omega (arith, c.find-place.ensures, c.if-place-self.false, s.whole) in
     let yes : ltb (place_of n es) (length es) ≡ true = lt-ltb (place_of n es) (length es) inside in
     let B : List Booking → ℕ → Book = λ xs k. record { entries = xs; next = k } in
-    let new = c.drop-at.new.self in
-    let gone : (book new).entries ≡ struck n es = c.drop-at.ensures.entries ∙ ap (remove es) c.find-place.ensures ∙ struck_place n es inside in
-    let out : book new ≡ struck_out (book s) n = ap (λ (xs : List Booking). B xs new.next) gone ∙ ap (B (struck n es)) c.drop-at.ensures.next in
+    let new = c.drop_at.new.self in
+    let gone : (book new).entries ≡ struck n es = c.drop_at.ensures.entries ∙ ap (remove es) c.find-place.ensures ∙ struck_place n es inside in
+    let out : book new ≡ struck_out (book s) n = ap (λ (xs : List Booking). B xs new.next) gone ∙ ap (B (struck n es)) c.drop_at.ensures.next in
     let ok : Result Book ℕ = Ok (struck_out (book s) n) in
     record {
       answer = sym (cond-true (ltb (place_of n es) (length es)) (Ok tt) (Err 21) yes);

@@ -8,8 +8,8 @@ use Rattle.ledger.proofs.ledger.loads.lower.Goals as goal
 pub bounds-loads-line : goal.bounds-loads-line
 bounds-loads-line c = let h = ltb-true _ 512 (all_pass_at (λ k. ltb k 512) c.args.lines.now c.loop-line.line-index 0 c.requires.below c.loop-line-test.true) in omega arith
 
-pub overflow-sub-loads : goal.overflow-sub-loads
-overflow-sub-loads c =
+pub overflow_sub-loads : goal.overflow_sub-loads
+overflow_sub-loads c =
     let i = c.loop-line.line-index in
     let x = get_or c.args.lines.now i 0 in
     let none = once_take c.args.lines.now i c.requires.once c.loop-line-test.true in

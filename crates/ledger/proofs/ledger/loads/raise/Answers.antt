@@ -8,8 +8,8 @@ use Rattle.ledger.proofs.ledger.loads.raise.Goals as goal
 pub bounds-loads-line : goal.bounds-loads-line
 bounds-loads-line c = let h = ltb-true _ 512 (all_pass_at (λ k. ltb k 512) c.args.lines.now c.loop-line.line-index 0 c.requires.below c.loop-line-test.true) in omega arith
 
-pub overflow-add-loads : goal.overflow-add-loads
-overflow-add-loads c =
+pub overflow_add-loads : goal.overflow_add-loads
+overflow_add-loads c =
     let x = get_or c.args.lines.now c.loop-line.line-index 0 in
     let h = ltb-true _ 512 (all_pass_at (λ k. ltb k 512) c.args.lines.now c.loop-line.line-index 0 c.requires.below c.loop-line-test.true) in
     let none = once_take c.args.lines.now c.loop-line.line-index c.requires.once c.loop-line-test.true in

@@ -14,13 +14,13 @@ fits r ks e h = subst (λ x. (x.count ≤ 63) × (length x.lines ≡ 63)) (sym e
 
 pub figures-requires : goal.figures-requires
 figures-requires c =
-    let y = c.aim-last.new.self in
-    let e = c.in-ok-found.ensures in
-    let o = c.in-ok-found.found in
+    let y = c.aim_last.new.self in
+    let e = c.in_ok-found.ensures in
+    let o = c.in_ok-found.found in
     let col = c.in-Some.column in
     let run = some_run y.search o col c.in-Some.is e.says in
     record {
-      place = fits c.find-run.new.route (traced_of y.search col) (some_route y.search o col c.in-Some.is c.args.route.now c.find-run.new.route e.route) (omega (arith, run.short, (fair_of y).sound.points_most));
+      place = fits c.find_run.new.route (traced_of y.search col) (some_route y.search o col c.in-Some.is c.args.route.now c.find_run.new.route e.route) (omega (arith, run.short, (fair_of y).sound.points_most));
       small = c.requires.small;
     }
 
@@ -29,15 +29,15 @@ returns-in-Some c =
     let x = c.args.self.now in
     let a = ask_of x in
     let b = bounds_of c.args.bounds in
-    let y = c.aim-last.new.self in
+    let y = c.aim_last.new.self in
     let z = last_search a c.args.h b in
-    let s = c.aim-last.ensures.same in
-    let aims = c.aim-last.ensures.aims in
-    let e = c.in-ok-found.ensures in
-    let o = c.in-ok-found.found in
+    let s = c.aim_last.ensures.same in
+    let aims = c.aim_last.ensures.aims in
+    let e = c.in_ok-found.ensures in
+    let o = c.in_ok-found.found in
     let col = c.in-Some.column in
     let old = c.args.cells.now in
-    let place = c.find-run.new.route in
+    let place = c.find_run.new.route in
     let ks = traced a z col in
     let put : place ≡ placed ks = some_route y.search o col c.in-Some.is c.args.route.now place e.route ∙ ap placed (traced_is a y z s aims col) in
     let lines : lines_in place ≡ ks = ap lines_in put ∙ lines_placed ks in

@@ -13,8 +13,8 @@ loop-bounds-init c =
     let start = along_start (ask_of x) (fair_of x) h c.requires.lowest c.requires.some (bottleneck_most (ask_of x) (fair_of x) h c.requires.lowest) in
     (subst (λ (n : ℕ). Along (ask_of x) h h (n * h) 0) (sym c.hops.ensures) start, refl, refl)
 
-pub half-root-half-requires : goal.half-root-half-requires
-half-root-half-requires c =
+pub half_root-half-requires : goal.half_root-half-requires
+half_root-half-requires c =
     let b = c.loop-bounds.bounds in
     product_small b.low b.high (omega (arith, c.loop-bounds-test.true)) c.loop-bounds.invariant.0.small
 
@@ -29,7 +29,7 @@ test-found-requires c =
     let x = c.args.self.now in
     let b = c.loop-bounds.bounds in
     record {
-      some = subst (λ (n : ℕ). 1 ≤ n) (sym c.half-root-half.ensures) (half_pos (ask_of x) (fair_of x) c.args.h b.low b.high b.tests c.loop-bounds.invariant.0 c.loop-bounds-test.true);
+      some = subst (λ (n : ℕ). 1 ≤ n) (sym c.half_root-half.ensures) (half_pos (ask_of x) (fair_of x) c.args.h b.low b.high b.tests c.loop-bounds.invariant.0 c.loop-bounds-test.true);
       room = subst (λ (a : Ask). Suffices a c.loop-bounds.cells) (sym c.loop-bounds.invariant.1) (omega (arith, c.requires.room, c.loop-bounds.auto.cells));
     }
 
@@ -37,7 +37,7 @@ pub after-bounds-requires : goal.after-bounds-requires
 after-bounds-requires c =
     let x = c.args.self.now in
     let b = c.loop-bounds.bounds in (
-      half_small (ask_of x) c.args.h b.low b.high b.tests c.half-root-half.result c.loop-bounds.invariant.0 c.loop-bounds-test.true c.half-root-half.ensures,
+      half_small (ask_of x) c.args.h b.low b.high b.tests c.half_root-half.result c.loop-bounds.invariant.0 c.loop-bounds-test.true c.half_root-half.ensures,
       early (ask_of x) (fair_of x) c.args.h b.low b.high b.tests c.loop-bounds.invariant.0 c.loop-bounds-test.true,
     )
 
@@ -46,13 +46,13 @@ loop-bounds-preserved c =
     let x = c.args.self.now in
     let h = c.args.h in
     let b = c.loop-bounds.bounds in
-    let T = c.half-root-half.result in
+    let T = c.half_root-half.result in
     let r = c.test_found.result in
     let s = c.loop-bounds.invariant.1 in
     let e = c.after-bounds.ensures in
     let found : r ≡ is_some (column (ask_of x) (test_at (ask_of x) T)) = c.test_found.ensures.found ∙ ap (λ (a : Ask). is_some (column a (test_at a T))) s in
     let rest : Tested (ask_of x) c.loop-bounds.cells c.test_found.new.cells = subst (λ (a : Ask). Tested a c.loop-bounds.cells c.test_found.new.cells) s c.test_found.ensures.rest in (
-      along_next (ask_of x) (fair_of x) h b.low b.high b.tests c.loop-bounds.invariant.0 c.loop-bounds-test.true T c.half-root-half.ensures r found
+      along_next (ask_of x) (fair_of x) h b.low b.high b.tests c.loop-bounds.invariant.0 c.loop-bounds-test.true T c.half_root-half.ensures r found
           c.after-bounds.result.low c.after-bounds.result.high c.after-bounds.result.tests e.low e.high e.tests,
       c.test_found.ensures.same ∙ s,
       rest ∙ c.loop-bounds.invariant.2,

@@ -21,13 +21,13 @@ never e o q = let z : ◌≡◌ {A = ℕ} 0 1 = cc in omega arith
 pub returns-in-Ok : goal.returns-in-Ok
 returns-in-Ok c =
     let x = c.args.self.now in
-    let y = c.aim-test.new.self in
+    let y = c.aim_test.new.self in
     let z = test_at (ask_of x) c.args.half in
     let r = room x c.args.cells.now c.args.half c.requires.room in
-    let e = c.aim-test.ensures in
+    let e = c.aim_test.ensures in
     let o = told c.in-Ok.column (column (ask_of x) z) (c.in-Ok.ensures.answer ∙ answer_is (ask_of x) y z e.same e.aims c.args.cells.now r) in
     record {
-      found = c.is-some.ensures ∙ ap is_some o;
+      found = c.is_some.ensures ∙ ap is_some o;
       same = e.same;
       rest = ap (drop ((ask_of x).graph.points * suc (2 * hops (ask_of x)))) (c.in-Ok.ensures.cells ∙ left_is (ask_of x) y z e.same e.aims c.args.cells.now r) ∙ rest_after (ask_of x) z c.args.cells.now;
     }
@@ -35,8 +35,8 @@ returns-in-Ok c =
 pub returns-in-Err : goal.returns-in-Err
 returns-in-Err c =
     let x = c.args.self.now in
-    let y = c.aim-test.new.self in
+    let y = c.aim_test.new.self in
     let z = test_at (ask_of x) c.args.half in
     let r = room x c.args.cells.now c.args.half c.requires.room in
-    let e = c.aim-test.ensures in
+    let e = c.aim_test.ensures in
     absurd (never _ (column (ask_of x) z) (c.in-Err.ensures.answer ∙ answer_is (ask_of x) y z e.same e.aims c.args.cells.now r))

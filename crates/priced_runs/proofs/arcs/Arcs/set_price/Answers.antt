@@ -4,8 +4,8 @@ use Rattle.priced_runs.proofs.arcs.Arcs.set_price.Goals as goal
 
 pub returns : goal.returns
 returns c =
-    let p = c.put-price.ensures in
+    let p = c.put_price.ensures in
     record {
       answer = search rules;
-      after = priced_graph c.args.self.now c.put-price.new.self c.args.k c.args.price (search rules) (search rules) p.points p.count p.arcs;
+      after = priced_graph c.args.self.now c.put_price.new.self c.args.k c.args.price (search rules) (search rules) p.points p.count p.arcs;
     }

@@ -12,8 +12,8 @@ loop-k-preserved c =
     let k = c.loop-k.k in
     let inv = c.loop-k.invariant in
     let within : k < length ms = omega (arith, inv.0) in (
-      length-set ms k c.is-open.result ∙ inv.0,
-      filled_more (λ i. (arc_at (graph c.args.self.now) i).«open») ms k c.is-open.result false within inv.1 c.is-open.ensures,
+      length-set ms k c.is_open.result ∙ inv.0,
+      filled_more (λ i. (arc_at (graph c.args.self.now) i).«open») ms k c.is_open.result false within inv.1 c.is_open.ensures,
     )
 
 pub returns : goal.returns

@@ -15,7 +15,7 @@ returns-in-Ok g c =
     let net = g.N.Network.net s.network in
     let f : Graph → Graph = priced_by (g.T.Tariff.prices s.tariff) net in
     let ok : Graph → Result Graph ℕ = λ x. Ok x in
-    ap ok c.price-all.ensures
+    ap ok c.price_all.ensures
     ∙ ap (with_value f) c.in-Ok.ensures
     ∙ sym (judged_map (closure_question net (length closures)) f (graph_of (loaded net (load_table (book s.ledger).entries)) closures c.args.g))
 

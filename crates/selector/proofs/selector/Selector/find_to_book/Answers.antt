@@ -23,8 +23,8 @@ claimable : (m : Ask) → Fair m → (r : Result Figures Refusal) (old new : Rou
 claimable m fair (Ok f) old new channels few e s = (ap good e ∙ answer_good m fair (answer_in new f) s, few)
 claimable m fair (Err e) old new channels few q s = tt
 
-pub returns-in-Ok-judge-entry : goal.returns-in-Ok-judge-entry
-returns-in-Ok-judge-entry g c =
+pub returns-in-Ok-judge_entry : goal.returns-in-Ok-judge_entry
+returns-in-Ok-judge_entry g c =
     let s = c.args.self.now in
     let a = c.args.ask in
     let w = world (g.N.Network.net s.network) (g.T.Tariff.prices s.tariff) in
@@ -33,7 +33,7 @@ returns-in-Ok-judge-entry g c =
     let old = c.args.cells.now in
     let x = c.in-Ok.question in
     let e = c.in-Ok.ensures in
-    let entry = c.in-Ok-judge-entry.ensures in
+    let entry = c.in-Ok-judge_entry.ensures in
     let f = c.near_cheapest.ensures in
     let place = f.route ∙ ap (route_after c.args.route.now) (sym f.answer) in
     record {
@@ -44,20 +44,20 @@ returns-in-Ok-judge-entry g c =
       entry = λ ok. entry;
     }
 
-pub returns-in-Err-judge-entry : goal.returns-in-Err-judge-entry
-returns-in-Err-judge-entry g c =
+pub returns-in-Err-judge_entry : goal.returns-in-Err-judge_entry
+returns-in-Err-judge_entry g c =
     let s = c.args.self.now in
     let a = c.args.ask in
     let w = world (g.N.Network.net s.network) (g.T.Tariff.prices s.tariff) in
     let b = book s.ledger in
     let closures = c.args.closures.now in
     let old = c.args.cells.now in
-    let n = number_of c.in-Err-judge-entry.refusal in
+    let n = number_of c.in-Err-judge_entry.refusal in
     let x = c.in-Ok.question in
     record {
-      answer = full_answer w b closures a old x c.in-Ok.ensures n c.in-Err-judge-entry.ensures;
+      answer = full_answer w b closures a old x c.in-Ok.ensures n c.in-Err-judge_entry.ensures;
       route = refl;
-      cells = full_cells w b closures a old x c.in-Ok.ensures n c.in-Err-judge-entry.ensures;
+      cells = full_cells w b closures a old x c.in-Ok.ensures n c.in-Err-judge_entry.ensures;
       claim = tt;
       entry = λ ok. search rules;
     }

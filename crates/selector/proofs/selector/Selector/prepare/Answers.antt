@@ -8,33 +8,33 @@ use Rattle.selector.specs.Worlds.{world}
 use Rattle.selector.proofs.Prepared.{at_trip, at_closures, at_cells, at_end}
 use Rattle.selector.proofs.selector.Selector.prepare.Goals as goal
 
-pub returns-in-err-judge-trip : goal.returns-in-err-judge-trip
-returns-in-err-judge-trip g c =
+pub returns-in_err-judge_trip : goal.returns-in_err-judge_trip
+returns-in_err-judge_trip g c =
     let s = c.args.self.now in
     let w = world (g.N.Network.net s.network) (g.T.Tariff.prices s.tariff) in
-    let p = err_from_is_err_and c.from-residual.result c.from-residual.ensures.1 in
+    let p = err_from_is_err_and c.from_residual.result c.from_residual.ensures.1 in
     ap (λ r. with_value asked (numbered r)) (p.1 ∙ ap Err p.2)
-    ∙ at_trip w (book s.ledger) c.args.closures.now c.args.cells c.args.ask (number_of c.in-err-judge-trip.field-0.0) c.in-err-judge-trip.ensures
+    ∙ at_trip w (book s.ledger) c.args.closures.now c.args.cells c.args.ask (number_of c.in_err-judge_trip.field-0.0) c.in_err-judge_trip.ensures
 
-pub returns-in-err-arcs : goal.returns-in-err-arcs
-returns-in-err-arcs g c =
+pub returns-in_err-arcs : goal.returns-in_err-arcs
+returns-in_err-arcs g c =
     let s = c.args.self.now in
     let w = world (g.N.Network.net s.network) (g.T.Tariff.prices s.tariff) in
-    let p = err_from_is_err_and c.from-residual-in-err-arcs.result c.from-residual-in-err-arcs.ensures.1 in
+    let p = err_from_is_err_and c.from_residual-in_err-arcs.result c.from_residual-in_err-arcs.ensures.1 in
     ap (λ r. with_value asked (numbered r)) (p.1 ∙ ap Err p.2)
-    ∙ at_closures w (book s.ledger) c.args.closures.now c.args.cells c.args.ask c.in-ok-judge-trip.ensures (number_of c.in-err-arcs.field-0.0) c.in-err-arcs.ensures
+    ∙ at_closures w (book s.ledger) c.args.closures.now c.args.cells c.args.ask c.in_ok-judge_trip.ensures (number_of c.in_err-arcs.field-0.0) c.in_err-arcs.ensures
 
-pub returns-in-err-judge-cells : goal.returns-in-err-judge-cells
-returns-in-err-judge-cells g c =
+pub returns-in_err-judge_cells : goal.returns-in_err-judge_cells
+returns-in_err-judge_cells g c =
     let s = c.args.self.now in
     let w = world (g.N.Network.net s.network) (g.T.Tariff.prices s.tariff) in
-    let p = err_from_is_err_and c.from-residual-in-err-judge-cells.result c.from-residual-in-err-judge-cells.ensures.1 in
+    let p = err_from_is_err_and c.from_residual-in_err-judge_cells.result c.from_residual-in_err-judge_cells.ensures.1 in
     ap (λ r. with_value asked (numbered r)) (p.1 ∙ ap Err p.2)
-    ∙ at_cells w (book s.ledger) c.args.closures.now c.args.cells c.args.ask c.in-ok-judge-trip.ensures (graph c.in-ok-arcs.arcs) c.in-ok-arcs.ensures (number_of c.in-err-judge-cells.field-0.0) c.in-err-judge-cells.ensures
+    ∙ at_cells w (book s.ledger) c.args.closures.now c.args.cells c.args.ask c.in_ok-judge_trip.ensures (graph c.in_ok-arcs.arcs) c.in_ok-arcs.ensures (number_of c.in_err-judge_cells.field-0.0) c.in_err-judge_cells.ensures
 
 pub returns : goal.returns
 returns g c =
     let s = c.args.self.now in
     let w = world (g.N.Network.net s.network) (g.T.Tariff.prices s.tariff) in
     c.new.ensures
-    ∙ at_end w (book s.ledger) c.args.closures.now c.args.cells c.args.ask c.in-ok-judge-trip.ensures (graph c.in-ok-arcs.arcs) c.in-ok-arcs.ensures c.in-ok-judge-cells.ensures
+    ∙ at_end w (book s.ledger) c.args.closures.now c.args.cells c.args.ask c.in_ok-judge_trip.ensures (graph c.in_ok-arcs.arcs) c.in_ok-arcs.ensures c.in_ok-judge_cells.ensures

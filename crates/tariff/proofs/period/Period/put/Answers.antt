@@ -2,8 +2,8 @@ use Rattle.std.proofs.Common.{◌≤◌, refl, ◌∙◌, arith, length-set}
 use Rattle.tariff.proofs.Puts.{weight_keeps, eight_keeps, weight_put}
 use Rattle.tariff.proofs.period.Period.put.Goals as goal
 
-pub invariant-of-self : goal.invariant-of-self
-invariant-of-self c =
+pub invariant_of-self : goal.invariant_of-self
+invariant_of-self c =
     let t = c.args.self.now in
     let a = c.args in (
       t.period_most,

@@ -8,9 +8,9 @@ use Rattle.text.proofs.commands.CommandReader.order.Goals as goal
 
 pub returns-in-Fastest : goal.returns-in-Fastest
 returns-in-Fastest c =
-    let a = c.in-ok-command.ensures in
+    let a = c.in_ok-command.ensures in
     let b = c.fastest.ensures in
-    let w = c.in-ok-command.field-0 in
+    let w = c.in_ok-command.field-0 in
     let is : Fastest ≡ w = sym c.in-Fastest.is in
     let l = c.args.self.now.forms.lexer in
     let m = c.command.new.self.lexer in
@@ -21,12 +21,12 @@ returns-in-Fastest c =
       spoken = spoken_by l m l' w r a.verb.0 (subst (λ (u : Name). Ordered (verb_slots u) m r l') is b.reads) (subst (λ (u : Name). IfOk r (λ x. verb_of x ≡ u)) is b.verb);
     }
 
-pub returns-in-default : goal.returns-in-default
-returns-in-default c =
-    let a = c.in-ok-command.ensures in
+pub returns-in_default : goal.returns-in_default
+returns-in_default c =
+    let a = c.in_ok-command.ensures in
     let b = c.widest.ensures in
-    let w = c.in-ok-command.field-0 in
-    let is : Widest ≡ w = ⊎_elim (λ e. absurd (c.in-default.not-Fastest e)) (λ e. sym e) a.verb.1 in
+    let w = c.in_ok-command.field-0 in
+    let is : Widest ≡ w = ⊎_elim (λ e. absurd (c.in_default.not-Fastest e)) (λ e. sym e) a.verb.1 in
     let l = c.args.self.now.forms.lexer in
     let m = c.command.new.self.lexer in
     let r = c.widest.result in

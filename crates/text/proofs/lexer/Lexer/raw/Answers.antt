@@ -15,10 +15,10 @@ returns-in-Some c = record {
   last = λ e. absurd (grind arith);
 }
 
-pub loop-self-preserved-in-default : goal.loop-self-preserved-in-default
-loop-self-preserved-in-default c = (
+pub loop-self-preserved-in_default : goal.loop-self-preserved-in_default
+loop-self-preserved-in_default c = (
   c.step.ensures.text ∙ c.loop-self.invariant.0,
-  c.loop-self.invariant.1 ∙ parts (made (goal.at.loop-self-preserved-in-default c).After-step) c.if-not-step.true [] c.in-default.ensures,
+  c.loop-self.invariant.1 ∙ parts (made (goal.at.loop-self-preserved-in_default c).After-step) c.if-not-step.true [] c.in_default.ensures,
 )
 
 pub loop-self-preserved : goal.loop-self-preserved

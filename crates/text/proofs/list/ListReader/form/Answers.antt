@@ -8,9 +8,9 @@ use Rattle.text.specs.ToCome.{to_come}
 use Rattle.text.proofs.Slots.{form_line}
 use Rattle.text.proofs.list.ListReader.form.Goals as goal
 
-pub returns-in-ok-placed : goal.returns-in-ok-placed
-returns-in-ok-placed c =
-    let e = c.in-ok-name.ensures in
+pub returns-in_ok-placed : goal.returns-in_ok-placed
+returns-in_ok-placed c =
+    let e = c.in_ok-name.ensures in
     let was = c.args.self.now.forms.lexer in
     let left = c.form.new.self.lexer in
     let d = drawn c.args.draft.now in

@@ -7,10 +7,10 @@ use Rattle.text.specs.Reads.{pass, turn_seen, turn_slots, turned}
 use Rattle.text.proofs.Growing.{took, grown_same, grown_then, grown_more, one_longer}
 use Rattle.text.proofs.list.ListReader.lines.Goals as goal
 
-pub returns-in-err-turn : goal.returns-in-err-turn
-returns-in-err-turn c =
-    let p = err_from_is_err_and c.from-residual.result c.from-residual.ensures.1 in
-    let a = c.in-err-turn.ensures in
+pub returns-in_err-turn : goal.returns-in_err-turn
+returns-in_err-turn c =
+    let p = err_from_is_err_and c.from_residual.result c.from_residual.ensures.1 in
+    let a = c.in_err-turn.ensures in
     let was = drawn c.args.draft.now in
     let d = drawn c.loop.draft in
     let is = drawn c.turn.new.draft in
@@ -22,7 +22,7 @@ returns-in-err-turn c =
 
 pub loop-smaller : goal.loop-smaller
 loop-smaller c =
-    let a = c.in-ok-turn.ensures in
+    let a = c.in_ok-turn.ensures in
     let d = drawn c.loop.draft in
     let is = drawn c.turn.new.draft in
     let few : length d.lines < 512 = a.few (ap is_some c.in-Some.is) in
@@ -31,7 +31,7 @@ loop-smaller c =
 
 pub loop-preserved : goal.loop-preserved
 loop-preserved c =
-    let a = c.in-ok-turn.ensures in
+    let a = c.in_ok-turn.ensures in
     let was = drawn c.args.draft.now in
     let d = drawn c.loop.draft in
     let is = drawn c.turn.new.draft in
@@ -45,14 +45,14 @@ loop-preserved c =
 
 pub returns : goal.returns
 returns c =
-    let a = c.in-ok-turn.ensures in
+    let a = c.in_ok-turn.ensures in
     let was = drawn c.args.draft.now in
     let d = drawn c.loop.draft in
     let is = drawn c.turn.new.draft in
     let l' = c.turn.new.self.forms.lexer in
-    let same : is ≡ d = a.draft ∙ ap (turned d) c.in-default.is in
+    let same : is ≡ d = a.draft ∙ ap (turned d) c.in_default.is in
     record {
       size = a.size ∙ c.loop.invariant.0;
       grown = grown_then was d is c.loop.invariant.1 (grown_same d is (ap (λ (n : Net). n.lines) same));
-      many = λ s k. let f = c.loop.invariant.2 s k in (turn_seen f.0 None, f.1 ∙ a.lists f.0 [] f.2 ∙ ap (λ o. pass (turn_seen f.0 o) (turn_slots o []) l') c.in-default.is, f.2 ∙ sym same);
+      many = λ s k. let f = c.loop.invariant.2 s k in (turn_seen f.0 None, f.1 ∙ a.lists f.0 [] f.2 ∙ ap (λ o. pass (turn_seen f.0 o) (turn_slots o []) l') c.in_default.is, f.2 ∙ sym same);
     }
