@@ -25,7 +25,7 @@ pub fn respond(heap: Global, input: &[u8]) -> Result<String, AllocError>
 
 /// A fault, on a line.
 fn fault_line(heap: Global, fault: TextFault) -> Result<String, AllocError>
-    ensures { IfOk result (λ t. string_bytes t ≡ fault-text (fault-of fault) ++ codes "\n") }
+    ensures { IfOk result (λ t. string_bytes t ≡ fault_text (fault_of fault) ++ codes "\n") }
 {
     format!(in heap; "{fault}\n")
 }

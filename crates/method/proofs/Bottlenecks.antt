@@ -1,6 +1,6 @@
 -- The bottleneck price: what the definition says of runs.
 use Rattle.std.proofs.Common.{◌≡◌, ℕ, ◌*◌, ◌<◌, ◌≤◌, min, Bool, true, false, cond, ◌⊎◌, List, [], ◌∷◌, map, length, is_some, Some, None, Option, sym, refl, ap, ◌∙◌, subst, inl, inr, mul-le-mul_left, arith}
-use Rattle.std.specs.List.{AllByRecursion as All}
+use Rattle.std.specs.List.{AllByRecursion}
 use Rattle.std.proofs.lemmas.List.{get_or-map, length-map}
 use Rattle.std.proofs.ByRecursion.{All-weaker, All-get_or}
 use Rattle.std.proofs.lemmas.Bool.{cases_Bool, cases_lt, cond-true, cond-false, both_ways}
@@ -18,11 +18,11 @@ use Rattle.method.proofs.Weights.{total_one}
 module _ (f : ℕ → Bool) where
   -- y passes, and what passes is at least y
   abbrev Least : ℕ → List ℕ → Type 0
-  Least y xs = (f y ≡ true) × All (λ x. f x ≡ true → y ≤ x) xs
+  Least y xs = (f y ≡ true) × AllByRecursion (λ x. f x ≡ true → y ≤ x) xs
 
   abbrev pub Said : List ℕ → Option ℕ → Type 0
   Said xs (Some y) = Least y xs
-  Said xs None = All (λ x. f x ≡ false) xs
+  Said xs None = AllByRecursion (λ x. f x ≡ false) xs
 
   pub least_said : (xs : List ℕ) → Said xs (least_of f xs)
   least_said [] = tt
@@ -49,11 +49,11 @@ module _ (f : ℕ → Bool) where
 -- ---- the dearest line of a run is one of the candidates, and costs at most the whole
 pub record Dearest (g : Graph) (P : ℕ → Type 0) (ks : List ℕ) (x : ℕ) : Type 0 where
   pub is : P x
-  pub all : All (λ k. (arc_at g k).price ≤ x) ks
+  pub all : AllByRecursion (λ k. (arc_at g k).price ≤ x) ks
   pub whole : x ≤ price_of g ks
-  pub least : (y : ℕ) → All (λ k. (arc_at g k).price ≤ y) ks → x ≤ y
+  pub least : (y : ℕ) → AllByRecursion (λ k. (arc_at g k).price ≤ y) ks → x ≤ y
 
-pub dearest : (g : Graph) (P : ℕ → Type 0) → P 0 → ((k : ℕ) → k < length g.arcs → P (arc_at g k).price) → (ks : List ℕ) → All (λ k. k < length g.arcs) ks
+pub dearest : (g : Graph) (P : ℕ → Type 0) → P 0 → ((k : ℕ) → k < length g.arcs → P (arc_at g k).price) → (ks : List ℕ) → AllByRecursion (λ k. k < length g.arcs) ks
     → (x : ℕ) × Dearest g P ks x
 dearest g P z f [] a = (0, record { is = z; all = tt; whole = omega arith; least = λ y h. omega arith })
 dearest g P z f (k ∷ ks) a = go (dearest g P z f ks a.1)
@@ -117,7 +117,7 @@ module _ (a : Ask) (fair : Fair a) where
           let s : length ks ≤ hops a = omega (arith, u.1.short) in
           (ks, u.0, omega (arith, total_most (λ k. (arc_at a.graph k).price) h ks u.0.1, mul-le-mul_left h s))
 
-  passes_all : (P : ℕ → Type 0) → All P (0 ∷ map (λ x. x.price) a.graph.arcs) → (k : ℕ) → k < length a.graph.arcs → P (arc_at a.graph k).price
+  passes_all : (P : ℕ → Type 0) → AllByRecursion P (0 ∷ map (λ x. x.price) a.graph.arcs) → (k : ℕ) → k < length a.graph.arcs → P (arc_at a.graph k).price
   passes_all P x k h =
       subst P (get_or-map (λ x. x.price) a.graph.arcs k no_arc 0 h)
       (All-get_or P (map (λ x. x.price) a.graph.arcs) k 0 (omega (arith, h, length-map a.graph.arcs (λ x. x.price))) x.1)
@@ -129,7 +129,7 @@ module _ (a : Ask) (fair : Fair a) where
   pub bottleneck_none : bottleneck a ≡ None → (ks : List ℕ) → Keeps a ks → ⊥
   unfolding bottleneck
   bottleneck_none e ks k =
-      let s : All (λ x. passes x ≡ false) (0 ∷ map (λ x. x.price) a.graph.arcs)
+      let s : AllByRecursion (λ x. passes x ≡ false) (0 ∷ map (λ x. x.price) a.graph.arcs)
       = subst (λ o. Said passes (0 ∷ map (λ x. x.price) a.graph.arcs) o) e (least_said passes (0 ∷ map (λ x. x.price) a.graph.arcs)) in
       let d = dearest a.graph (λ x. passes x ≡ false) s.0 (passes_all (λ x. passes x ≡ false) s) ks (run_all (arc_at a.graph) (Open a.graph) (λ k. k < length a.graph.arcs) (λ k o. o.0) a.from a.to ks k.run) in
       let u = under_passes d.0 ks (k, d.1.all) in
@@ -162,7 +162,7 @@ module _ (a : Ask) (fair : Fair a) where
         (bottleneck_least (price_of a.graph ks) ks
         (k, each ks)).1
       where
-        each : (ks : List ℕ) → All (λ k. (arc_at a.graph k).price ≤ price_of a.graph ks) ks
+        each : (ks : List ℕ) → AllByRecursion (λ k. (arc_at a.graph k).price ≤ price_of a.graph ks) ks
         each [] = tt
         each (k ∷ ks) = (
           omega arith,

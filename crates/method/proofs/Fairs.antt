@@ -2,7 +2,7 @@
 use Rattle.std.proofs.Common.{◌≡◌, ℕ, suc, ◌+◌, ◌-◌, ◌*◌, ◌/◌, ◌<◌, ◌≤◌, max, List, length, drop, Some, sym, refl, ap, ◌∙◌, div-le_self, arith}
 use Rattle.std.proofs.lemmas.List.{drop-drop}
 use Rattle.std.proofs.lemmas.Nat.{mul-le}
-use Rattle.std.specs.List.{AllByRecursion as All}
+use Rattle.std.specs.List.{AllByRecursion}
 use Rattle.priced_runs.specs.Graphs.{Graph, arc_at}
 use Rattle.priced_runs.specs.Held.{graph, sound}
 use Rattle.columns.specs.Searches.{weighed}

@@ -1,6 +1,6 @@
 -- What a column search says of runs, and the short run inside each run.
 use Rattle.std.proofs.Common.{◌≡◌, ℕ, suc, ◌<◌, ◌≤◌, true, ◌&&◌, leb, ◌⊎◌, List, [], ◌∷◌, map, length, Some, None, refl, inl, inr, arith}
-use Rattle.std.specs.List.{AllByRecursion as All}
+use Rattle.std.specs.List.{AllByRecursion}
 use Rattle.std.proofs.lemmas.Bool.{cases_lt, and_parts, and_from, leb-true, le-leb}
 use Rattle.priced_runs.specs.declared.arc.Arc.{Arc}
 use Rattle.priced_runs.specs.Graphs.{arc_at}
@@ -73,11 +73,11 @@ module _ (a : Ask) (fair : Fair a) where
       )
 
 -- a run of other arcs, where each may be used
-pub run_by : (get : ℕ → Arc) (P Q : ℕ → Type 0) → (s v : ℕ) (ks : List ℕ) → All (λ k. P k → Q k) ks → Run get P s ks v → Run get Q s ks v
+pub run_by : (get : ℕ → Arc) (P Q : ℕ → Type 0) → (s v : ℕ) (ks : List ℕ) → AllByRecursion (λ k. P k → Q k) ks → Run get P s ks v → Run get Q s ks v
 run_by get P Q s v [] f r = r
 run_by get P Q s v (k ∷ ks) f r = (f.0 r.0, r.1, run_by get P Q (get k).to v ks f.1 r.2)
 
-pub every : (P : ℕ → Type 0) → ((k : ℕ) → P k) → (ks : List ℕ) → All P ks
+pub every : (P : ℕ → Type 0) → ((k : ℕ) → P k) → (ks : List ℕ) → AllByRecursion P ks
 every P f [] = tt
 every P f (k ∷ ks) = (f k, every P f ks)
 
@@ -92,7 +92,7 @@ module _ (a : Ask) (h : ℕ) where
   to_cheap ks u =
       run_by (arc_at a.graph) (Open a.graph) (Usable (cheap h a.graph)) a.from a.to ks (each ks u.1) u.0.run
     where
-      each : (ks : List ℕ) → All (λ k. (arc_at a.graph k).price ≤ h) ks → All (λ k. Open a.graph k → Usable (cheap h a.graph) k) ks
+      each : (ks : List ℕ) → AllByRecursion (λ k. (arc_at a.graph k).price ≤ h) ks → AllByRecursion (λ k. Open a.graph k → Usable (cheap h a.graph) k) ks
       each [] p = tt
       each (k ∷ ks) p = (
         λ o. (o.0, and_from (arc_at a.graph k).«open» (leb (arc_at a.graph k).price h) o.1 (le-leb (arc_at a.graph k).price h p.0)),

@@ -1,6 +1,6 @@
 -- What the method answers, in terms of runs.
 use Rattle.std.proofs.Common.{◌≡◌, ℕ, zero, suc, ◌+◌, ◌-◌, ◌*◌, ◌/◌, ◌<◌, ◌≤◌, List, [], ◌∷◌, map, length, Some, None, Ok, Err, Option, sym, refl, ap, ◌∙◌, subst, mul-le-mul_right, mul-le-mul_left, mul-pos, arith}
-use Rattle.std.specs.List.{AllByRecursion as All}
+use Rattle.std.specs.List.{AllByRecursion}
 use Rattle.std.proofs.lemmas.Nat.{le-div, mul-le}
 use Rattle.priced_runs.specs.Graphs.{arc_at}
 use Rattle.priced_runs.specs.Totals.{price_of, delay_of, Apart}
@@ -18,7 +18,7 @@ lines_apart : (to : ℕ → ℕ) (ks : List ℕ) → Apart (map to ks) → Apart
 lines_apart to [] a = tt
 lines_apart to (k ∷ ks) a = (each ks a.0, lines_apart to ks a.1)
   where
-    each : (js : List ℕ) → All (λ y. to k ≡ y → ⊥) (map to js) → All (λ j. k ≡ j → ⊥) js
+    each : (js : List ℕ) → AllByRecursion (λ y. to k ≡ y → ⊥) (map to js) → AllByRecursion (λ j. k ≡ j → ⊥) js
     each [] b = tt
     each (j ∷ js) b = ((λ e. b.0 (ap to e)), each js b.1)
 

@@ -2,7 +2,7 @@
 use Rattle.std.proofs.Common.{◌≡◌, ℕ, ◌+◌, ◌<◌, ◌≤◌, Bool, true, false, ◌&&◌, leb, List, [], ◌∷◌, length, get_or, Some, None, Option, sym, refl, ◌∙◌, arith}
 use Rattle.std.proofs.lemmas.List.FromFn.{get_or-map-range_with_len}
 use Rattle.std.proofs.lemmas.Bool.{and_parts, and_from, both_ways, leb-true, leb-false, le-leb}
-use Rattle.std.specs.List.{AllByRecursion as All}
+use Rattle.std.specs.List.{AllByRecursion}
 use Rattle.priced_runs.specs.declared.arc.Arc.{Arc}
 use Rattle.priced_runs.specs.Graphs.{Graph, Sound, arc_at}
 use Rattle.priced_runs.specs.Held.{graph, sound}
@@ -41,7 +41,7 @@ module _ (x : Question) (h : ℕ) where
   open_allowed k p o =
       (o.0, mark_is k o.0 ∙ and_from (arc_at g k).«open» (leb (arc_at g k).price h) o.1 (le-leb (arc_at g k).price h p))
 
-  each : (ks : List ℕ) → All (λ k. (arc_at g k).price ≤ h) ks → All (λ k. Open g k → Allowed g marks k) ks
+  each : (ks : List ℕ) → AllByRecursion (λ k. (arc_at g k).price ≤ h) ks → AllByRecursion (λ k. Open g k → Allowed g marks k) ks
   each [] p = tt
   each (k ∷ ks) p = (open_allowed k p.0, each ks p.1)
 

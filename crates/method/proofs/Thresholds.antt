@@ -3,7 +3,7 @@ use Rattle.std.proofs.Common.{◌≡◌, ℕ, ◌+◌, ◌<◌, ◌≤◌, ◌�
 use Rattle.std.proofs.ByRecursion.{All-weaker, has_get_or, has_shuffled}
 use Rattle.std.proofs.lemmas.List.{get_or-take, length-take-le}
 use Rattle.std.proofs.lemmas.Bool.{cases_lt}
-use Rattle.std.specs.List.{AllByRecursion as All}
+use Rattle.std.specs.List.{AllByRecursion}
 use Rattle.std.specs.List.Sorted.{IsNonDecreasing, IsPermutation}
 use Rattle.priced_runs.specs.Graphs.{arc_at}
 use Rattle.priced_runs.specs.Held.{graph}
@@ -28,7 +28,7 @@ module _ (x : Question) (prices : List ℕ) (ord : Ordered x prices) where
   candidate y [] u = absurd (x.apart u.0.run)
   candidate y (k ∷ ks) u = go d.1.is
     where
-      inside : All (λ k. k < length (graph x.arcs).arcs) (k ∷ ks)
+      inside : AllByRecursion (λ k. k < length (graph x.arcs).arcs) (k ∷ ks)
       inside = run_all (arc_at (graph x.arcs)) (Open (graph x.arcs)) (λ k. k < length (graph x.arcs).arcs) (λ k o. o.0) x.from x.to (k ∷ ks) u.0.run
 
       d : (z : ℕ) × Dearest (graph x.arcs) (λ y. (y ≡ 0) ⊎ Listed y) (k ∷ ks) z

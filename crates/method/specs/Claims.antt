@@ -1,6 +1,6 @@
 -- What the method promises, in terms of runs.
 use Rattle.std.specs.Prelude.{◌≡◌, ℕ, suc, ◌*◌, ◌<◌, ◌≤◌, List, length, Some, None, Ok, Err, Option, Result}
-use Rattle.std.specs.List.{AllByRecursion as All}
+use Rattle.std.specs.List.{AllByRecursion}
 use Rattle.priced_runs.specs.Graphs.{Graph, Sound, arc_at}
 use Rattle.priced_runs.specs.Totals.{delay_of, price_of, visits, Apart, Kept, NearCheapest}
 use Rattle.method.specs.Method.{Ask, Answer, Searching, test_at, bounds, last_search, bottleneck}
@@ -40,7 +40,7 @@ Says a (Err e) = (e ≡ 20) × ((ks : List ℕ) → Keeps a ks → ⊥)
 
 -- The arcs ks are an open run from s to t that keeps the limit, each priced at most h.
 abbrev pub KeptUnder : Graph → ℕ → ℕ → ℕ → ℕ → List ℕ → Type 0
-KeptUnder graph s t limit h ks = Kept graph s t limit ks × All (λ k. (arc_at graph k).price ≤ h) ks
+KeptUnder graph s t limit h ks = Kept graph s t limit ks × AllByRecursion (λ k. (arc_at graph k).price ≤ h) ks
 
 abbrev pub KeepsUnder : Ask → ℕ → List ℕ → Type 0
 KeepsUnder a h ks = KeptUnder a.graph a.from a.to a.limit h ks

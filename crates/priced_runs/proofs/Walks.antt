@@ -1,6 +1,6 @@
 -- Runs taken apart and put together, and the short run inside each run.
 use Rattle.std.proofs.Common.{◌≡◌, ℕ, ◌+◌, ◌<◌, ◌≤◌, ◌⊎◌, List, [], ◌∷◌, ◌++◌, map, length, get_or, take, sym, refl, ap, ◌∙◌, subst, inl, inr, arith}
-use Rattle.std.specs.List.{AllByRecursion as All}
+use Rattle.std.specs.List.{AllByRecursion}
 use Rattle.std.proofs.lemmas.List.{take_more}
 use Rattle.std.proofs.lemmas.Bool.{cases_eq}
 use Rattle.priced_runs.specs.declared.arc.Arc.{Arc}
@@ -33,24 +33,24 @@ module _ (arc : ℕ → Arc) (usable : ℕ → Type 0) where
   run_push s l [] h r = (h, sym r, refl)
   run_push s l (k ∷ ks) h r = (r.0, r.1, run_push (arc k).to l ks h r.2)
 
-  pub run_all : (P : ℕ → Type 0) → ((k : ℕ) → usable k → P k) → (s v : ℕ) (ks : List ℕ) → Run arc usable s ks v → All P ks
+  pub run_all : (P : ℕ → Type 0) → ((k : ℕ) → usable k → P k) → (s v : ℕ) (ks : List ℕ) → Run arc usable s ks v → AllByRecursion P ks
   run_all P f s v [] r = tt
   run_all P f s v (k ∷ ks) r = (f k r.0, run_all P f (arc k).to v ks r.2)
 
   -- ---- where a run comes twice to a point, the part between is left out
   cut : (v x u : ℕ) (qs : List ℕ) → Run arc usable u qs v → Apart (visits arc u qs)
-      → All (λ y. x ≡ y → ⊥) (visits arc u qs) ⊎ ((ps : List ℕ) × Run arc usable x ps v × Sub ps qs × Apart (visits arc x ps))
+      → AllByRecursion (λ y. x ≡ y → ⊥) (visits arc u qs) ⊎ ((ps : List ℕ) × Run arc usable x ps v × Sub ps qs × Apart (visits arc x ps))
   cut v x u [] r a = go (cases_eq x u)
     where
       go : (x ≡ u) ⊎ (x ≡ u → ⊥)
-          → All (λ y. x ≡ y → ⊥) (u ∷ []) ⊎ ((ps : List ℕ) × Run arc usable x ps v × Sub ps [] × Apart (visits arc x ps))
+          → AllByRecursion (λ y. x ≡ y → ⊥) (u ∷ []) ⊎ ((ps : List ℕ) × Run arc usable x ps v × Sub ps [] × Apart (visits arc x ps))
       go (inl e) = inr ([], e ∙ r, done, (tt, tt))
       go (inr d) = inl (d, tt)
   cut v x u (q ∷ qs) r a = go (cases_eq x u) (cut v x (arc q).to qs r.2 a.1)
     where
       go : (x ≡ u) ⊎ (x ≡ u → ⊥)
-          → All (λ y. x ≡ y → ⊥) (visits arc (arc q).to qs) ⊎ ((ps : List ℕ) × Run arc usable x ps v × Sub ps qs × Apart (visits arc x ps))
-          → All (λ y. x ≡ y → ⊥) (visits arc u (q ∷ qs)) ⊎ ((ps : List ℕ) × Run arc usable x ps v × Sub ps (q ∷ qs) × Apart (visits arc x ps))
+          → AllByRecursion (λ y. x ≡ y → ⊥) (visits arc (arc q).to qs) ⊎ ((ps : List ℕ) × Run arc usable x ps v × Sub ps qs × Apart (visits arc x ps))
+          → AllByRecursion (λ y. x ≡ y → ⊥) (visits arc u (q ∷ qs)) ⊎ ((ps : List ℕ) × Run arc usable x ps v × Sub ps (q ∷ qs) × Apart (visits arc x ps))
       go (inl e) i =
           inr (q ∷ qs, (r.0, r.1 ∙ sym e, r.2), sub_refl (q ∷ qs), subst (λ z. Apart (visits arc z (q ∷ qs))) (sym e) a)
       go (inr d) (inl h) = inl (d, h)
@@ -63,12 +63,12 @@ module _ (arc : ℕ → Arc) (usable : ℕ → Type 0) where
       let e = erase (arc k).to v ks r.2 in go e (cut v s (arc k).to e.0 e.1 e.3)
     where
       go : (e : (qs : List ℕ) × Run arc usable (arc k).to qs v × Sub qs ks × Apart (visits arc (arc k).to qs))
-          → All (λ y. s ≡ y → ⊥) (visits arc (arc k).to e.0) ⊎ ((ps : List ℕ) × Run arc usable s ps v × Sub ps e.0 × Apart (visits arc s ps))
+          → AllByRecursion (λ y. s ≡ y → ⊥) (visits arc (arc k).to e.0) ⊎ ((ps : List ℕ) × Run arc usable s ps v × Sub ps e.0 × Apart (visits arc s ps))
           → (qs : List ℕ) × Run arc usable s qs v × Sub qs (k ∷ ks) × Apart (visits arc s qs)
       go e (inl h) = (k ∷ e.0, (r.0, r.1, e.1), keep e.2, (h, e.3))
       go e (inr h) = (h.0, h.1, skip (sub_trans h.2 e.2), h.3)
 
-  all_visits : (n : ℕ) → ((k : ℕ) → (arc k).to < n) → (ks : List ℕ) → All (λ x. x < n) (map (λ k. (arc k).to) ks)
+  all_visits : (n : ℕ) → ((k : ℕ) → (arc k).to < n) → (ks : List ℕ) → AllByRecursion (λ x. x < n) (map (λ k. (arc k).to) ks)
   all_visits n f [] = tt
   all_visits n f (k ∷ ks) = (f k, all_visits n f ks)
 

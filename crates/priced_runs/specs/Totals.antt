@@ -1,6 +1,6 @@
 -- What a run adds up to, and the runs that a question is about.
 use Rattle.std.specs.Prelude.{◌≡◌, ℕ, ◌+◌, ◌*◌, ◌<◌, ◌≤◌, true, List, [], ◌∷◌, map, length, ◌≢◌}
-use Rattle.std.specs.List.{AllByRecursion as All}
+use Rattle.std.specs.List.{AllByRecursion}
 use Rattle.priced_runs.specs.declared.arc.Arc.{Arc}
 use Rattle.priced_runs.specs.Graphs.{Graph, arc_at}
 use Rattle.priced_runs.specs.Runs.{Run}
@@ -25,7 +25,7 @@ visits arc s ks = s ∷ map (λ k. (arc k).to) ks
 -- No number stands twice in the list.
 abbrev pub Apart : List ℕ → Type 0
 Apart [] = Unit {0}
-Apart (x ∷ xs) = All (λ y. x ≢ y) xs × Apart xs
+Apart (x ∷ xs) = AllByRecursion (λ y. x ≢ y) xs × Apart xs
 
 -- There is an arc k, and it is open.
 abbrev pub Open : Graph → ℕ → Type 0

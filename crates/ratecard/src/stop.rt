@@ -4,7 +4,7 @@ use std::alloc::AllocError;
 use std::io;
 
 /// A refusal where none was wanted, or want of memory or of a place to print.
-#[derive(Drop)]
+#[derive(Debug, Drop)]
 pub(crate) enum Stop {
     Refused(Refusal),
     NoMemory,

@@ -3,7 +3,7 @@ use network::Refusal;
 use std::alloc::AllocError;
 
 /// A refusal, or want of memory.
-#[derive(Drop)]
+#[derive(Debug, Drop)]
 pub(crate) enum Stop {
     Refused(Refusal),
     NoMemory,

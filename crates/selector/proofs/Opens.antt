@@ -3,7 +3,7 @@ use Rattle.std.proofs.Common.{◌≡◌, ℕ, ◌+◌, ◌-◌, ◌*◌, ◌<◌
 use Rattle.std.proofs.lemmas.List.FromFn.{get_or-map-range_with_len, length-map-range_with_len}
 use Rattle.std.proofs.ByRecursion.{All-weaker}
 use Rattle.std.proofs.lemmas.Bool.{and_parts, and_from, eqb-true, eq-eqb, leb-true, le-leb}
-use Rattle.std.specs.List.{AllByRecursion as All}
+use Rattle.std.specs.List.{AllByRecursion}
 use Rattle.ledger.specs.Books.{Book, load_of, load_table}
 use Rattle.method.specs.Claims.{Good, Says}
 use Rattle.method.specs.Method.{Answer}
@@ -93,11 +93,11 @@ module _ (w : World) (b : Book) (closures : List ℕ) (g : ℕ) (ranged : Ranged
   to_run s t (k ∷ ks) r =
       (to_arc k r.0, from_is k r.0.0 ∙ r.1, subst (λ u. Run (arc_at G) (Open G) u ks t) (sym (to_is k r.0.0)) (to_run (line_at w.net k).to t ks r.2))
 
-  total_is : (f h : ℕ → ℕ) → ((k : ℕ) → k < length w.net.lines → f k ≡ h k) → (ks : List ℕ) → All (λ k. k < length w.net.lines) ks → total f ks ≡ total h ks
+  total_is : (f h : ℕ → ℕ) → ((k : ℕ) → k < length w.net.lines → f k ≡ h k) → (ks : List ℕ) → AllByRecursion (λ k. k < length w.net.lines) ks → total f ks ≡ total h ks
   total_is f h e [] a = refl
   total_is f h e (k ∷ ks) a = omega (arith, e k a.0, total_is f h e ks a.1)
 
-  inside : (s t : ℕ) (ks : List ℕ) → Run (arc_at G) (Open G) s ks t → All (λ k. k < length w.net.lines) ks
+  inside : (s t : ℕ) (ks : List ℕ) → Run (arc_at G) (Open G) s ks t → AllByRecursion (λ k. k < length w.net.lines) ks
   inside s t ks r = run_all (arc_at G) (Open G) (λ k. k < length w.net.lines) (λ k o. (to_line k o).0) s t ks r
 
   pub delays_are : (s t : ℕ) (ks : List ℕ) → Run (arc_at G) (Open G) s ks t → delay_of G ks ≡ run_delay w ks

@@ -1,13 +1,13 @@
 -- What the tokens of a text are, in words of their own: they account for every byte, and each run is as long as it can be.
 use Rattle.std.specs.Prelude.{◌≡◌, ℕ, ◌+◌, ◌<◌, true, false, List, [], ◌∷◌, ◌++◌, length}
-use Rattle.std.specs.List.{AllByRecursion as All}
+use Rattle.std.specs.List.{AllByRecursion}
 use Rattle.text.specs.declared.token.Kind.{Kind}
 use Rattle.text.specs.declared.token.Kind.TheVariants.{Between}
 use Rattle.text.specs.Items.{Item, class, goes_on}
 
 -- All bytes are of one kind.
 abbrev pub OfKind : Kind → List ℕ → Type 0
-OfKind k bs = All (λ b. class b ≡ k) bs
+OfKind k bs = AllByRecursion (λ b. class b ≡ k) bs
 
 -- The bytes do not go on with that kind.
 abbrev pub Stops : Kind → List ℕ → Type 0

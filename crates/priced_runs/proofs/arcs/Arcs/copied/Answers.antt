@@ -29,31 +29,18 @@ invariant_of-result g c =
     let ce = c.line_count-count.ensures in
     let n = c.points-points.result in
     let at : (P : Arc → Type 0) → ((k : ℕ) → P (seen_at net c.args.closures.now c.args.g k)) → (k : ℕ) → k < c.line_count-count.result → P (get_or c.loop-k.arcs k no_arc) =
-    λ P h k lt. subst P (sym (c.loop-k.invariant.1 k (omega (arith, c.loop-k-test.false)))) (h k) in (
-      omega arith,
-      (
-        omega arith,
-        (
-          omega arith,
-          (
-            c.loop-k.invariant.0,
-            (
-              at (λ a. a.from < n) (λ k. let f = (ranged.fit k).from_below in omega arith),
-              (
-                at (λ a. a.to < n) (λ k. let f = (ranged.fit k).to_below in omega arith),
-                (
-                  at (λ a. a.delay ≤ 1000000) (λ k. (ranged.fit k).delay_most),
-                  (
-                    at (λ a. a.room ≤ 1000) (λ k. (ranged.fit k).room_most),
-                    (at (λ a. a.price ≤ 1000000) (λ k. omega arith), tt),
-                  ),
-                ),
-              ),
-            ),
-          ),
-        ),
-      ),
-    )
+    λ P h k lt. subst P (sym (c.loop-k.invariant.1 k (omega (arith, c.loop-k-test.false)))) (h k) in
+    record {
+      points_least = omega arith;
+      points_most = omega arith;
+      few = omega arith;
+      whole = c.loop-k.invariant.0;
+      starts = at (λ a. a.from < n) (λ k. let f = (ranged.fit k).from_below in omega arith);
+      stops = at (λ a. a.to < n) (λ k. let f = (ranged.fit k).to_below in omega arith);
+      delays = at (λ a. a.delay ≤ 1000000) (λ k. (ranged.fit k).delay_most);
+      rooms = at (λ a. a.room ≤ 1000) (λ k. (ranged.fit k).room_most);
+      prices = at (λ a. a.price ≤ 1000000) (λ k. omega arith);
+    }
 
 pub returns : goal.returns
 returns g c =

@@ -5,19 +5,14 @@ use Rattle.tariff.proofs.period.Period.put.Goals as goal
 pub invariant_of-self : goal.invariant_of-self
 invariant_of-self c =
     let t = c.args.self.now in
-    let a = c.args in (
-      t.period_most,
-      (
-        length-set t.rows a.row _ ∙ t.four,
-        (
-          eight_keeps t.rows a.row a.class a.weight (omega arith) t.eight,
-          (
-            weight_keeps (λ w. 1 ≤ w) t.rows a.row a.class a.weight (omega arith) (omega arith) t.weights_least,
-            (weight_keeps (λ w. w ≤ 100) t.rows a.row a.class a.weight (omega arith) (omega arith) t.weights_most, tt),
-          ),
-        ),
-      ),
-    )
+    let a = c.args in
+    record {
+      period_most = t.period_most;
+      four = length-set t.rows a.row _ ∙ t.four;
+      eight = eight_keeps t.rows a.row a.class a.weight (omega arith) t.eight;
+      weights_least = weight_keeps (λ w. 1 ≤ w) t.rows a.row a.class a.weight (omega arith) (omega arith) t.weights_least;
+      weights_most = weight_keeps (λ w. w ≤ 100) t.rows a.row a.class a.weight (omega arith) (omega arith) t.weights_most;
+    }
 
 pub returns : goal.returns
 returns c =

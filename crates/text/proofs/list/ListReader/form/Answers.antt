@@ -8,8 +8,8 @@ use Rattle.text.specs.ToCome.{to_come}
 use Rattle.text.proofs.Slots.{form_line}
 use Rattle.text.proofs.list.ListReader.form.Goals as goal
 
-pub returns-in_ok-placed : goal.returns-in_ok-placed
-returns-in_ok-placed c =
+pub returns-in_ok-placed-in-Line : goal.returns-in_ok-placed-in-Line
+returns-in_ok-placed-in-Line c =
     let e = c.in_ok-name.ensures in
     let was = c.args.self.now.forms.lexer in
     let left = c.form.new.self.lexer in
