@@ -44,10 +44,11 @@ def refused(copy, misuse):
         print(f"misuse: {misuse.what}: the text to edit does not stand once in {misuse.file}")
         return False
     path.write_text(source.replace(misuse.old, misuse.new))
-    run = subprocess.run(["rt", "check", misuse.crate], cwd=copy, capture_output=True, text=True)
+    folder = copy / "crates" / misuse.crate
+    run = subprocess.run(["rt", "check"], cwd=folder, capture_output=True, text=True)
     path.write_text(source)
     said = (run.stdout + run.stderr).splitlines()
-    named = any(line.startswith(f"{path}:") and misuse.error in line for line in said)
+    named = any(line.startswith(f"{misuse.file}:") and misuse.error in line for line in said)
     if run.returncode == 1 and named:
         print(f"misuse: {misuse.what}: refused, {misuse.error}")
         return True
@@ -60,7 +61,7 @@ def main():
     with tempfile.TemporaryDirectory() as folder:
         copy = pathlib.Path(folder).resolve()
         shutil.copy(ROOT / "crates.txt", copy)
-        shutil.copytree(ROOT / "crates", copy / "crates")
+        shutil.copytree(ROOT / "crates", copy / "crates", ignore=shutil.ignore_patterns("out"))
         results = [refused(copy, misuse) for misuse in MISUSES]
     return 0 if all(results) else 1
 

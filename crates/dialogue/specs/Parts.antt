@@ -1,5 +1,5 @@
 -- How an input is parted: a list, an empty line, and commands, one on each line.
-use Rattle.std.specs.Prelude.{ℕ, suc, ◌+◌, Bool, true, false, cond, ◌&&◌, List, [], ◌∷◌, ◌++◌, length, take, drop, ◌==◌}
+use Rattle.std.specs.Prelude.{ℕ, suc, ◌+◌, Bool, true, cond, ◌&&◌, List, [], ◌∷◌, ◌++◌, take, drop, ◌==◌}
 
 -- The place of the first empty line, or the length where there is none: a newline at the very beginning or right after
 -- another. `fresh` says whether a line begins here.

@@ -1,5 +1,5 @@
 -- What the console answers to commands, as text.
-use Rattle.std.specs.Prelude.{ℕ, List, [], ◌∷◌, ◌++◌, replicate, Ok, Err, codes, decimal, Result}
+use Rattle.std.specs.Prelude.{ℕ, List, ◌++◌, replicate, Ok, Err, codes, decimal, Result}
 use Rattle.network.specs.Net.{Net}
 use Rattle.network.specs.Refusals.{number_of}
 use Rattle.sweep.specs.Values.{fastest_of, widest_of}

@@ -1,5 +1,5 @@
 -- What a network means, and which numbers it may hold.
-use Rattle.std.specs.Prelude.{ℕ, ◌<◌, ◌≤◌, Bool, true, false, ◌&&◌, List, [], ◌∷◌, length, nat_le, nat_lt, slice_index_or}
+use Rattle.std.specs.Prelude.{ℕ, ◌<◌, ◌≤◌, Bool, true, ◌&&◌, List, [], ◌∷◌, length, nat_le, nat_lt, slice_index_or}
 use Rattle.network.specs.declared.line.Charges.{Charges}
 use Rattle.network.specs.declared.line.Terms.{Terms}
 use Rattle.network.specs.declared.line.Line.{Line}

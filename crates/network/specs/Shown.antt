@@ -1,5 +1,5 @@
 -- Proofs, not definitions: the networks of this crate keep the ranges.
-use Rattle.std.specs.Prelude.{◌≡◌, ℕ, zero, suc, ◌+◌, ◌-◌, ◌*◌, ◌%◌, ◌<◌, ◌≤◌, Bool, true, false, cond, ◌&&◌, List, [], ◌∷◌, map, length, get_or, vec_items, nat_le, nat_lt, slice_index_or}
+use Rattle.std.specs.Prelude.{◌≡◌, ℕ, zero, suc, ◌+◌, ◌-◌, ◌*◌, ◌%◌, ◌<◌, ◌≤◌, Bool, true, cond, ◌&&◌, List, [], ◌∷◌, map, length, get_or, vec_items, nat_le, nat_lt, slice_index_or}
 use Rattle.std.proofs.Common.{⊎_elim, sym, subst, mod-lt, not-suc-le-zero, le_of_suc-le-suc, arith}
 use Rattle.std.specs.List.{range_with_len}
 use Rattle.std.proofs.lemmas.List.FromFn.{length-map-range_with_len, get_or-map-range_with_len}
@@ -10,7 +10,7 @@ use Rattle.network.specs.declared.line.Line.{Line}
 use Rattle.network.specs.declared.line.Terms.{Terms}
 use Rattle.network.specs.declared.ring.Ring.{Ring}
 use Rattle.network.specs.Net.{Net, no_line, line_at, chargeable, in_range, ends_below, each_passes, all_below, all_in_range, Fit, Ranged}
-use Rattle.network.specs.Rings.{ring, ring_line}
+use Rattle.network.specs.Rings.{ring_line}
 use Rattle.network.specs.Loads.{loaded, lowered_at}
 use Rattle.network.specs.Held.{drawn, ring_net}
 

@@ -1,12 +1,12 @@
 -- A table that is filled by a sweep over the open lines of a network.
-use Rattle.std.proofs.Common.{◌≡◌, ℕ, ◌<◌, ◌≤◌, Bool, true, false, cond, ltb, leb, List, [], ◌∷◌, ◌++◌, length, get_or, drop, Some, None, Ok, Err, Option, Result, sym, refl, ap, ◌∙◌, subst, arith}
+use Rattle.std.proofs.Common.{◌≡◌, ℕ, ◌<◌, ◌≤◌, Bool, true, cond, ltb, leb, List, ◌++◌, length, get_or, drop, Some, None, Ok, Err, Option, Result, sym, refl, ap, ◌∙◌, subst, arith}
 use Rattle.std.proofs.lemmas.List.{get_or_append_left}
 use Rattle.std.proofs.lemmas.Bool.{cond-true, lt-ltb}
-use Rattle.network.specs.Net.{Net, Ranged}
+use Rattle.network.specs.Net.{Net}
 use Rattle.network.specs.Refusals.{Question, judged, left_by}
-use Rattle.runs.specs.Graphs.{Graph, Sound, arc_at, seen_at, graph_of, open_marks}
-use Rattle.sweep.specs.Laws.{Ops, Laws}
-use Rattle.sweep.specs.Best.{Allowed, BestAt, best_table}
+use Rattle.runs.specs.Graphs.{Graph, arc_at, seen_at, graph_of, open_marks}
+use Rattle.sweep.specs.Laws.{Ops}
+use Rattle.sweep.specs.Best.{Allowed, BestAt}
 use Rattle.sweep.specs.Values.{sweep_questions, swept_table, place_questions, all_yes, open_table, table_after, or_no_run, OpenLine, Says}
 use Rattle.sweep.proofs.Judged.{not_both, judged_same, judged_after, judged_stop, judged_yes, yes_before, yes_after}
 use Rattle.sweep.proofs.Opened.{open_best}

@@ -1,11 +1,10 @@
 -- Runs of allowed arcs are runs of open lines.
-use Rattle.std.proofs.Common.{◌≡◌, ℕ, ◌<◌, ◌≤◌, Bool, true, false, ◌&&◌, eqb, leb, List, [], ◌∷◌, map, length, get_or, Some, None, Option, sym, refl, ap, ◌∙◌, subst, arith}
-use Rattle.std.specs.List.{range_with_len}
+use Rattle.std.proofs.Common.{◌≡◌, ℕ, ◌<◌, ◌≤◌, true, false, eqb, leb, List, [], ◌∷◌, length, get_or, Some, None, Option, sym, refl, ap, ◌∙◌, subst, arith}
 use Rattle.std.proofs.lemmas.List.FromFn.{get_or-map-range_with_len, length-map-range_with_len}
 use Rattle.std.proofs.lemmas.Bool.{and_parts, and_from, eqb-true, eq-eqb, leb-true, le-leb}
 use Rattle.network.specs.Net.{Net, line_at}
 use Rattle.runs.specs.declared.arc.Arc.{Arc}
-use Rattle.runs.specs.Graphs.{Graph, no_arc, arc_at, seen_at, graph_of, open_marks}
+use Rattle.runs.specs.Graphs.{no_arc, arc_at, seen_at, graph_of, open_marks}
 use Rattle.runs.specs.Runs.{Run, value}
 use Rattle.sweep.specs.Laws.{Ops}
 use Rattle.sweep.specs.Best.{Allowed, BestAt}

@@ -1,6 +1,5 @@
 -- The turns of the loop that picks a point.
-use Rattle.std.proofs.Common.{◌≡◌, ℕ, ◌+◌, ◌<◌, ◌≤◌, Bool, true, false, cond, List, length, get_or, Some, None, Option, sym, refl, ap, ◌∙◌, subst, arith, below_more}
-use Rattle.runs.specs.declared.arc.Arc.{Arc}
+use Rattle.std.proofs.Common.{◌≡◌, ℕ, ◌+◌, Bool, true, false, cond, List, get_or, Some, None, Option, refl, subst, arith, below_more}
 use Rattle.sweep.specs.Laws.{Ops, Laws}
 use Rattle.sweep.specs.Front.{Picked, better}
 use Rattle.sweep.proofs.Basics.{never, same_some, le_same}

@@ -1,5 +1,5 @@
 -- The turns of the loops, as the code takes them.
-use Rattle.std.proofs.Common.{◌≡◌, ℕ, zero, suc, ◌+◌, ◌<◌, ◌≤◌, Bool, true, false, List, length, get_or, drop, set, replicate, Some, None, Option, sym, refl, ap, ◌∙◌, subst, zero-add, arith}
+use Rattle.std.proofs.Common.{◌≡◌, ℕ, zero, suc, ◌+◌, ◌<◌, false, List, length, get_or, drop, set, replicate, None, Option, sym, refl, ap, ◌∙◌, subst, zero-add, arith}
 use Rattle.std.proofs.lemmas.List.{drop-set-lt}
 use Rattle.runs.specs.declared.arc.Arc.{Arc}
 use Rattle.sweep.specs.Laws.{Ops, Laws, Ranged}

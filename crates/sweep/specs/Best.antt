@@ -2,7 +2,7 @@
 use Rattle.std.specs.Prelude.{◌≡◌, ℕ, zero, suc, ◌<◌, Bool, true, false, cond, ◌&&◌, List, [], ◌∷◌, map, length, Some, None, Option, ◌==◌, slice_index_or}
 use Rattle.std.specs.List.{range_with_len}
 use Rattle.runs.specs.declared.arc.Arc.{Arc}
-use Rattle.runs.specs.Graphs.{Graph, arc_at}
+use Rattle.runs.specs.Graphs.{Graph}
 use Rattle.runs.specs.Runs.{Run, value}
 use Rattle.sweep.specs.Laws.{Ops}
 

@@ -2,3 +2,4 @@ pub mod Laws
 pub mod Best
 pub mod Front
 pub mod Values
+pub mod Shown

@@ -1,7 +1,7 @@
 //! The grading by delay.
 ghost use Rattle.std.specs.Prelude.{◌*◌, ◌≤◌, min};
 ghost use Rattle.sweep.specs.Laws.{delay_ops};
-ghost use Rattle.std.proofs.Common.{rules};
+ghost use Rattle.sweep.specs.Shown.{delay_lawful};
 
 use crate::grading::Grading;
 use runs::Arc;
@@ -18,7 +18,7 @@ impl Grading for Delay {
 
     ghost clip = { λ x. min x 4294967295 };
 
-    ghost lawful = { Prim.search rules };
+    ghost lawful = { delay_lawful };
 
     fn start() -> u32 {
         0

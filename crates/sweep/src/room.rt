@@ -1,6 +1,6 @@
 //! The grading by room.
 ghost use Rattle.sweep.specs.Laws.{room_ops};
-ghost use Rattle.std.proofs.Common.{rules};
+ghost use Rattle.sweep.specs.Shown.{room_lawful};
 
 use crate::grading::Grading;
 use runs::Arc;
@@ -17,7 +17,7 @@ impl Grading for Room {
 
     ghost clip = { λ x. x };
 
-    ghost lawful = { Prim.search rules };
+    ghost lawful = { room_lawful };
 
     fn start() -> u32 {
         1000

@@ -5,7 +5,7 @@ use Rattle.std.proofs.lemmas.Bool.{and_parts, cases_Bool, leb-true}
 use Rattle.network.specs.declared.line.Charges.{Charges}
 use Rattle.network.specs.Net.{chargeable}
 use Rattle.tariff.specs.Prices.{Priced, in_line, rate_price, balanced_price}
-use Rattle.tariff.specs.Weights.{Weights, weight_at, freed, raised, settled, period_price}
+use Rattle.tariff.specs.Weights.{Weights, weight_at, freed, settled, period_price}
 
 -- Charges in a line's ranges.
 record Ranges (c : Charges) : Type 0 where

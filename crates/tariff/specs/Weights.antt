@@ -1,5 +1,5 @@
 -- The period tariff: its weights, how they are set, and its prices.
-use Rattle.std.specs.Prelude.{ℕ, ◌*◌, cond, ◌&&◌, List, [], ◌∷◌, set, replicate, Result, ◌==◌, nat_le, slice_index, slice_index_or, slice_set}
+use Rattle.std.specs.Prelude.{ℕ, ◌*◌, cond, ◌&&◌, List, [], ◌∷◌, replicate, Result, ◌==◌, nat_le, slice_index, slice_index_or, slice_set}
 use Rattle.network.specs.declared.line.Charges.{Charges}
 use Rattle.network.specs.Refusals.{asks, judged}
 use Rattle.tariff.specs.declared.period.row.Row.{Row}

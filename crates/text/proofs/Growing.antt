@@ -1,5 +1,5 @@
 -- A draft that takes lines one after another.
-use Rattle.std.proofs.Common.{◌≡◌, ℕ, ◌+◌, ◌-◌, ◌<◌, List, [], ◌∷◌, ◌++◌, length, Some, Option, sym, ap, ◌∙◌, append_assoc, append-nil, arith, length-append}
+use Rattle.std.proofs.Common.{◌≡◌, ℕ, ◌+◌, List, [], ◌∷◌, ◌++◌, length, Some, Option, sym, ap, ◌∙◌, append_assoc, append-nil, length-append}
 use Rattle.network.specs.declared.line.Line.{Line as NetLine}
 use Rattle.network.specs.Net.{Net}
 use Rattle.text.specs.Grammar.{Seen, pointed, with_line}

@@ -1,9 +1,9 @@
 -- The one pass answers the earliest fault of all, and of those at its place the lowest.
-use Rattle.std.proofs.Common.{◌≡◌, ℕ, ◌+◌, ◌<◌, ◌≤◌, Bool, true, false, cond, ◌⊎◌, List, [], ◌∷◌, ◌++◌, length, sym, refl, ap, ◌∙◌, subst, inl, inr, arith, le-leb}
+use Rattle.std.proofs.Common.{◌≡◌, ℕ, ◌+◌, ◌<◌, ◌≤◌, Bool, true, false, cond, List, [], ◌∷◌, ◌++◌, length, sym, refl, subst, inl, inr, arith, le-leb}
 use Rattle.text.specs.Items.{Item, items, Rising}
 use Rattle.text.specs.Grammar.{Slot, Seen, Out, nothing, read, fault, fails, good_byte, fits, ranged, below, fewer, unless, or_else, after, next, run, answer}
 use Rattle.text.specs.Listing.{Fault}
-use Rattle.text.specs.Rule.{faults_at, Recovery, onward, all_faults, In, Before, BeforeAll, text_faults}
+use Rattle.text.specs.Rule.{faults_at, Recovery, onward, all_faults, In, BeforeAll, text_faults}
 use Rattle.text.proofs.Same.{items_rise}
 
 -- the questions are failed in rising order

@@ -1,8 +1,8 @@
 -- The places of the items rise, and the scan from left to right gives the items of the definition.
-use Rattle.std.proofs.Common.{◌≡◌, ℕ, ◌+◌, ◌-◌, ◌<◌, ◌≤◌, Bool, true, false, cond, eqb, leb, List, [], ◌∷◌, ◌++◌, length, get_or, take, drop, sym, refl, ap, ◌∙◌, subst, append_assoc, append-nil, arith, eq-eqb, true-eqb, false-eqb}
+use Rattle.std.proofs.Common.{◌≡◌, ℕ, ◌+◌, ◌<◌, ◌≤◌, Bool, true, false, cond, eqb, List, [], ◌∷◌, ◌++◌, length, sym, refl, ap, ◌∙◌, subst, append_assoc, append-nil, arith, eq-eqb}
 use Rattle.text.specs.declared.token.Kind.{Kind}
 use Rattle.text.specs.declared.token.Kind.TheVariants.{Between, Word, Number, Open, Close, Newline, Bad}
-use Rattle.text.specs.Items.{Item, letter, digit, class, is_word, is_number, is_space, goes_on, one, before, items, scan, rest, Rising}
+use Rattle.text.specs.Items.{Item, class, is_space, goes_on, one, before, items, scan, rest, Rising}
 use Rattle.text.proofs.Scans.{same_kind}
 
 choose : {A : Type 0} (P : A → Type 0) (b : Bool) (x y : A) → P x → P y → P (cond b x y)

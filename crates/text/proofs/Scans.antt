@@ -1,11 +1,11 @@
 -- One byte on, and the scan from left to right is the definition.
-use Rattle.std.proofs.Common.{◌≡◌, ℕ, ◌+◌, ◌-◌, ◌<◌, ◌≤◌, Bool, true, false, cond, eqb, leb, List, [], ◌∷◌, ◌++◌, length, get_or, take, drop, sym, refl, ap, ◌∙◌, subst, append_assoc, append-nil, arith}
+use Rattle.std.proofs.Common.{◌≡◌, ℕ, ◌+◌, ◌-◌, ◌<◌, ◌≤◌, Bool, true, false, cond, List, [], ◌∷◌, ◌++◌, length, get_or, take, drop, sym, refl, ap, ◌∙◌, arith}
 use Rattle.std.specs.List.{between}
-use Rattle.std.proofs.lemmas.List.{drop_more, drop_all, take_more}
+use Rattle.std.proofs.lemmas.List.{drop_more, drop_all}
 use Rattle.std.proofs.lemmas.List.Edits.{between_more}
 use Rattle.text.specs.declared.token.Kind.{Kind}
 use Rattle.text.specs.declared.token.Kind.TheVariants.{Between, Word, Number, Open, Close, Newline, Bad}
-use Rattle.text.specs.Items.{Item, letter, digit, class, is_word, is_number, is_space, goes_on, one, before, items, scan, rest}
+use Rattle.text.specs.Items.{Item, class, is_word, is_number, is_space, goes_on, one, scan, rest}
 
 pub word_is : (k : Kind) → is_word k ≡ true → k ≡ Word
 word_is Between e = absurd (grind arith)

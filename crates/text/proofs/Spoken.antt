@@ -13,10 +13,9 @@ use Rattle.text.specs.declared.fault.TextFault.TheVariants.{Forms}
 use Rattle.text.specs.declared.lexer.Lexer.{Lexer}
 use Rattle.text.specs.declared.token.Kind.TheVariants.{Between}
 use Rattle.text.specs.declared.words.Name.{Name}
-use Rattle.text.specs.declared.words.Name.TheVariants.{Fastest, Widest}
 use Rattle.text.specs.Items.{rest}
 use Rattle.text.specs.Grammar.{Slot, Seen, Out, read, fault, begun, command, command_slots, verb_slots, answer}
-use Rattle.text.specs.Commands.{Ordered, Spoken, Whole, numbers, verb_of, command_from, noted_all, ordered, commanded}
+use Rattle.text.specs.Commands.{Ordered, Spoken, Whole, verb_of, command_from, noted_all, ordered, commanded}
 use Rattle.text.specs.Faults.{char_number, form_out}
 use Rattle.text.specs.Listing.{Fault, fault_of, faulted, start}
 use Rattle.text.specs.Reads.{size, pass}

@@ -1,5 +1,5 @@
 -- From the pass over a lexer's tokens to what a text answers.
-use Rattle.std.proofs.Common.{◌≡◌, ℕ, ◌<◌, ◌≤◌, Bool, true, false, cond, List, [], ◌∷◌, ◌++◌, length, take, is_err, Ok, Err, Result, sym, refl, ap, ◌∙◌, subst, le-leb}
+use Rattle.std.proofs.Common.{◌≡◌, ℕ, ◌<◌, ◌≤◌, cond, List, length, take, is_err, Ok, Err, Result, sym, refl, ap, ◌∙◌, subst, le-leb}
 use borrow.Author.Tests.{lt-leb}
 use Rattle.std.proofs.lemmas.List.{take_at}
 use Rattle.network.specs.Net.{Net}

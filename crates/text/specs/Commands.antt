@@ -1,5 +1,5 @@
 -- What the reading of a command text answers.
-use Rattle.std.specs.Prelude.{◌≡◌, ℕ, cond, List, [], ◌∷◌, ◌++◌, Ok, Err, Result, ◌==◌, slice_index}
+use Rattle.std.specs.Prelude.{◌≡◌, ℕ, cond, List, [], ◌∷◌, Ok, Err, Result, ◌==◌, slice_index}
 use Rattle.network.specs.Drafts.{new_draft}
 use Rattle.text.specs.declared.commands.Command.{Command}
 use Rattle.text.specs.declared.commands.Command.TheVariants.{Fastest as fastest, Widest as widest}

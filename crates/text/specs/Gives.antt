@@ -1,11 +1,9 @@
 -- What the lexer answers, as items.
-use Rattle.std.specs.Prelude.{◌≡◌, ℕ, ◌+◌, Bool, true, false, cond, List, [], ◌∷◌, ◌++◌, Some, None, Ok, Err, Option, Result, ◌≢◌}
-use Rattle.text.specs.declared.token.Kind.{Kind}
-use Rattle.text.specs.declared.token.Kind.TheVariants.{Between, Word, Number, Open, Close, Newline, Bad}
+use Rattle.std.specs.Prelude.{◌≡◌, List, [], ◌∷◌, Some, None, Ok, Err, Option, Result, ◌≢◌}
+use Rattle.text.specs.declared.token.Kind.TheVariants.{Bad}
 use Rattle.text.specs.declared.token.Token.{Token}
 use Rattle.text.specs.declared.fault.CharFault.{CharFault}
-use Rattle.text.specs.declared.fault.CharCause.{CharCause}
-use Rattle.text.specs.declared.fault.CharCause.TheVariants.{TooLong, BadByte}
+use Rattle.text.specs.declared.fault.CharCause.TheVariants.{BadByte}
 use Rattle.text.specs.Items.{Item}
 
 -- A token of the code as an item.

@@ -5,7 +5,7 @@ use Rattle.network.specs.Net.{Net, all_below}
 use Rattle.text.specs.declared.token.Kind.{Kind}
 use Rattle.text.specs.declared.token.Kind.TheVariants.{Between, Word, Number, Open, Close, Newline, Bad}
 use Rattle.text.specs.declared.words.Name.{Name}
-use Rattle.text.specs.declared.words.Name.TheVariants.{Points, Line, End, Delay, Rate, Class, Room, Jitter, Loss, Fastest, Widest, Other}
+use Rattle.text.specs.declared.words.Name.TheVariants.{Points, Line, End, Delay, Rate, Class, Room, Jitter, Loss, Fastest, Widest}
 use Rattle.text.specs.Items.{Item, is_word, is_number, items}
 use Rattle.text.specs.Names.{name_of, ordinal}
 

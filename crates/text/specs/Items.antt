@@ -1,5 +1,5 @@
 -- What a text's bytes are cut into: brackets, newlines, longest runs of letters or of digits, and bad bytes, each with its place.
-use Rattle.std.specs.Prelude.{◌≡◌, ℕ, ◌+◌, ◌<◌, ◌≤◌, Bool, true, false, cond, List, [], ◌∷◌, ◌++◌, drop, ◌==◌, nat_le}
+use Rattle.std.specs.Prelude.{ℕ, ◌+◌, ◌<◌, ◌≤◌, Bool, true, false, cond, List, [], ◌∷◌, ◌++◌, drop, ◌==◌, nat_le}
 use Rattle.std.specs.List.{between}
 use Rattle.text.specs.declared.token.Kind.{Kind}
 use Rattle.text.specs.declared.token.Kind.TheVariants.{Between, Word, Number, Open, Close, Newline, Bad}

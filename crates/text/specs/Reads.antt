@@ -12,11 +12,11 @@ use Rattle.text.specs.declared.lexer.Lexer.{Lexer}
 use Rattle.text.specs.declared.token.Kind.TheVariants.{Bad, Open, Close, Newline}
 use Rattle.text.specs.declared.token.Token.{Token}
 use Rattle.text.specs.declared.words.Name.{Name}
-use Rattle.text.specs.declared.words.Name.TheVariants.{Points, Line, End, Delay, Rate, Class, Room, Jitter, Loss, Fastest, Widest}
+use Rattle.text.specs.declared.words.Name.TheVariants.{Points, Delay, Rate, Class, Room, Jitter, Loss, Fastest, Widest}
 use Rattle.text.specs.Items.{Item, is_number, is_word}
 use Rattle.text.specs.Names.{name_of}
 use Rattle.text.specs.Gives.{item}
-use Rattle.text.specs.Grammar.{Slot, Seen, Out, run, read, mark, word, form, command, number, points, tip, done, nothing, short, value_of, noted, begun, pointed, lined, with_line, field, line_slots, list_slots, verb_slots}
+use Rattle.text.specs.Grammar.{Slot, Seen, Out, run, read, mark, word, form, command, number, points, tip, done, nothing, short, value_of, noted, begun, lined, with_line, field, line_slots, list_slots, verb_slots}
 use Rattle.text.specs.Faults.{form_out, text_out}
 use Rattle.text.specs.ToCome.{to_come}
 

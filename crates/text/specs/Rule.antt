@@ -1,9 +1,8 @@
 -- The order of faults in its own words: of all faults of a text the earliest place decides, then the lower number.
 use Rattle.std.specs.Prelude.{◌≡◌, ℕ, ◌<◌, ◌≤◌, ◌⊎◌, List, [], ◌∷◌, ◌++◌, length, Ok, Err, Result}
-use Rattle.network.specs.Net.{Net}
 use Rattle.text.specs.Items.{Item, items}
 use Rattle.text.specs.Grammar.{Slot, Seen, nothing, fails, after, next}
-use Rattle.text.specs.Listing.{Fault, start}
+use Rattle.text.specs.Listing.{Fault}
 
 -- The faults at a place, by the questions that failed there.
 abbrev pub faults_at : ℕ → List ℕ → List Fault

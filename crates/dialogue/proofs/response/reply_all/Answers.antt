@@ -1,7 +1,7 @@
-use Rattle.std.proofs.Common.{◌≡◌, ℕ, ◌<◌, List, [], ◌∷◌, ◌++◌, length, string_bytes, ap, ◌∙◌, arith, rules}
+use Rattle.std.proofs.Common.{◌≡◌, ℕ, ◌<◌, List, [], ◌∷◌, ◌++◌, length, string_bytes, ap, ◌∙◌, arith}
 use Rattle.std.proofs.lemmas.Bool.Decides.{nat_tests}
 use Rattle.network.specs.Held.{sealed_net}
-use Rattle.dialogue.specs.Parts.{lines_of, after_line}
+use Rattle.dialogue.specs.Parts.{lines_of}
 use Rattle.dialogue.specs.Replies.{replied}
 use Rattle.dialogue.specs.Responses.{replies}
 use Rattle.dialogue.proofs.Lines.{replies_more, replies_done, after_shorter}

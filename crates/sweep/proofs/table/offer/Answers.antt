@@ -1,4 +1,4 @@
-use Rattle.std.proofs.Common.{◌≡◌, get_or, set, Some, None, sym, refl, ap, ◌∙◌}
+use Rattle.std.proofs.Common.{set, None, sym, ap, ◌∙◌}
 use Rattle.std.proofs.lemmas.List.{set-get_or, get_or_read}
 use Rattle.std.proofs.lemmas.Bool.{cond-true}
 use Rattle.sweep.specs.Front.{kept}

@@ -1,8 +1,7 @@
-use Rattle.std.proofs.Common.{◌≡◌, ◌+◌, ◌<◌, ◌≤◌, false, length, get_or, Some, None, sym, refl, ap, ◌∙◌, subst, le_antisymm, arith, rules}
+use Rattle.std.proofs.Common.{◌+◌, ◌<◌, false, length, get_or, None, sym, ◌∙◌, subst, le_antisymm, arith}
 use Rattle.std.proofs.lemmas.Bool.{both_ways}
 use Rattle.std.proofs.lemmas.List.{get_or_read}
 use Rattle.sweep.specs.Front.{Picked}
-use Rattle.sweep.proofs.Basics.{never}
 use Rattle.sweep.proofs.Picks.{picked_pass, picked_take}
 use Rattle.sweep.proofs.table.pick.Goals as goal
 use Rattle.sweep.proofs.table.pick.Goals.{then-not-done-v+in-Some, then-not-done-v+in_default, else-not-done-v}

@@ -1,4 +1,4 @@
-use Rattle.std.proofs.Common.{◌≡◌, ◌<◌, ◌≤◌, false, length, get_or, sym, refl, ap, ◌∙◌, subst, le_antisymm, arith}
+use Rattle.std.proofs.Common.{◌<◌, false, length, get_or, sym, refl, ap, ◌∙◌, subst, le_antisymm, arith}
 use Rattle.std.proofs.lemmas.Bool.{both_ways}
 use Rattle.runs.specs.declared.arc.Arc.{Arc}
 use Rattle.runs.specs.Graphs.{arc_at}

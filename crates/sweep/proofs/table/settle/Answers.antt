@@ -1,4 +1,4 @@
-use Rattle.std.proofs.Common.{◌≡◌, ◌<◌, ◌≤◌, true, false, length, get_or, drop, set, replicate, Some, None, sym, refl, ◌∙◌, subst, arith, lit≤}
+use Rattle.std.proofs.Common.{◌≡◌, ◌<◌, true, false, length, drop, set, replicate, Some, None, refl, ◌∙◌, subst, arith, lit≤}
 use Rattle.std.proofs.lemmas.List.{get_or-set_same, length-set}
 use Rattle.runs.specs.Graphs.{arc_at}
 use Rattle.runs.specs.Held.{graph, sound}

@@ -1,6 +1,6 @@
-use Rattle.std.proofs.Common.{◌≡◌, ◌<◌, ◌≤◌, true, ltb, leb, List, length, Option, sym, ap, ◌∙◌, arith}
+use Rattle.std.proofs.Common.{◌<◌, ◌≤◌, ltb, leb, length, sym, ap, ◌∙◌, arith}
 use Rattle.std.proofs.lemmas.Bool.{ltb-true, leb-true}
-use Rattle.network.specs.Refusals.{judged, left_by}
+use Rattle.network.specs.Refusals.{left_by}
 use Rattle.runs.specs.Held.{graph, sound}
 use Rattle.sweep.specs.Values.{sweep_questions, swept_table}
 use Rattle.sweep.proofs.Judged.{asked, judged_same}

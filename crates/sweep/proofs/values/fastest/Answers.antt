@@ -1,11 +1,9 @@
-use Rattle.std.proofs.Common.{◌≡◌, ◌<◌, eqb, ltb, ◌++◌, length, Err, sym, refl, ap, ◌∙◌}
+use Rattle.std.proofs.Common.{◌++◌, length, Err, refl, ap, ◌∙◌}
 use Rattle.std.proofs.lemmas.Result.{err_from_is_err_and}
-use Rattle.std.proofs.lemmas.Bool.{and_parts, ltb-true}
 use Rattle.network.specs.Refusals.{number_of, numbered}
 use Rattle.sweep.specs.Laws.{delay_ops}
 use Rattle.sweep.specs.Values.{end_questions, channel_question, place_questions}
 use Rattle.sweep.proofs.Filled.{reached_after, reached_stop}
-use Rattle.sweep.proofs.Judged.{asked}
 use Rattle.sweep.proofs.values.fastest.Goals as goal
 
 pub returns-in_err-judge_ends : goal.returns-in_err-judge_ends

@@ -1,6 +1,6 @@
 use Rattle.std.proofs.Common.{◌≡◌, leb, length}
 use Rattle.network.specs.Refusals.{numbered}
-use Rattle.runs.specs.Graphs.{Graph, graph_of}
+use Rattle.runs.specs.Graphs.{graph_of}
 use Rattle.runs.specs.Held.{graph}
 use Rattle.sweep.proofs.Filled.{filled}
 use Rattle.sweep.proofs.Judged.{asked}

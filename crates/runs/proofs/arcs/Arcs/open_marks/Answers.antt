@@ -1,4 +1,4 @@
-use Rattle.std.proofs.Common.{◌≡◌, ◌<◌, ◌≤◌, false, length, ◌∙◌, arith}
+use Rattle.std.proofs.Common.{◌<◌, false, length, ◌∙◌, arith}
 use Rattle.std.proofs.lemmas.List.FromFn.{fill_by_all}
 use Rattle.std.proofs.lemmas.List.{length-set}
 use Rattle.runs.specs.Graphs.{arc_at, open_marks}

@@ -1,4 +1,4 @@
-use Rattle.std.proofs.Common.{◌≡◌, IfOk, sym, ap, ◌∙◌, subst, ⊎_elim, rules}
+use Rattle.std.proofs.Common.{◌≡◌, IfOk, sym, ◌∙◌, subst, ⊎_elim}
 use Rattle.text.specs.declared.words.Name.{Name}
 use Rattle.text.specs.declared.words.Name.TheVariants.{Fastest, Widest}
 use Rattle.text.specs.Commands.{Ordered, verb_of}

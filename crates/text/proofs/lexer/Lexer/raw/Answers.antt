@@ -1,6 +1,5 @@
-use Rattle.std.proofs.Common.{◌≡◌, [], ◌++◌, sym, refl, ap, ◌∙◌, subst, append-nil, arith, rules}
+use Rattle.std.proofs.Common.{[], ◌++◌, sym, ap, ◌∙◌, append-nil, arith}
 use Rattle.text.specs.Gives.{shown}
-use Rattle.text.specs.Items.{rest}
 use Rattle.text.proofs.Scans.{Step, stays, parts, at_end, ended}
 use Rattle.text.proofs.lexer.Lexer.raw.Goals as goal
 use Rattle.text.proofs.lexer.Lexer.raw.Goals.{After-step}

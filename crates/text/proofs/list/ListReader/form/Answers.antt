@@ -1,5 +1,4 @@
-use Rattle.std.proofs.Common.{◌≡◌, ◌<◌, true, ◌∷◌, length, sym, refl, ap, ◌∙◌, subst, arith, rules}
-use Rattle.std.proofs.lemmas.Bool.Decides.{nat_tests}
+use Rattle.std.proofs.Common.{◌<◌, true, ◌∷◌, length, sym, ap, ◌∙◌, subst, rules}
 use Rattle.network.specs.Net.{Net}
 use Rattle.network.specs.Held.{drawn}
 use Rattle.text.specs.Grammar.{run, form}

@@ -1,8 +1,8 @@
-use Rattle.std.proofs.Common.{◌≡◌, [], ◌∷◌, refl, ◌∙◌, rules}
+use Rattle.std.proofs.Common.{[], ◌∷◌, ◌∙◌}
 use Rattle.std.proofs.lemmas.Result.{err_from_is_err_and}
 use Rattle.network.specs.Held.{drawn}
 use Rattle.text.specs.declared.token.Kind.TheVariants.{Open, Newline}
-use Rattle.text.specs.Grammar.{Seen, pointed, mark, form}
+use Rattle.text.specs.Grammar.{pointed, mark, form}
 use Rattle.text.proofs.Growing.{grown_same, grown_then, pointed_net}
 use Rattle.text.proofs.list.ListReader.list.Goals as goal
 

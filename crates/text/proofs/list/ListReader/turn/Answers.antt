@@ -1,4 +1,4 @@
-use Rattle.std.proofs.Common.{◌≡◌, true, ◌∷◌, refl, ap, ◌∙◌, rules}
+use Rattle.std.proofs.Common.{true, ◌∷◌, refl, ap, ◌∙◌}
 use Rattle.std.proofs.lemmas.Result.{err_from_is_err_and}
 use Rattle.text.specs.declared.token.Kind.TheVariants.{Open}
 use Rattle.text.specs.Grammar.{mark, form}
