@@ -66,8 +66,8 @@ module _ {V : Type 0} {ops : Ops V} {fits : ℕ → V → Type 0} {clip : V → 
           let e' : get_or best (arc j).from None ≡ Some y = sym (other (arc j).from (apart (arc j).from d)) ∙ e in
           ⊎_elim
           (λ jk.
-          let x-is : x ≡ y = same_some (get_or best u None) x y here (subst (λ (i : ℕ). get_or best i None ≡ Some y) (ap (λ (i : ℕ). (arc i).from) jk ∙ fu) e') in
-          subst (In ops arc best' y) (sym jk) (y₀, subst (λ (i : ℕ). get_or best' i None ≡ Some y₀) (sym tw) same, subst (λ (t : V). ops.le y₀ t ≡ true) (sym xy ∙ ap (λ (t : V). ops.ext t (arc k)) x-is) (le_same laws y₀)))
+          let x_is : x ≡ y = same_some (get_or best u None) x y here (subst (λ (i : ℕ). get_or best i None ≡ Some y) (ap (λ (i : ℕ). (arc i).from) jk ∙ fu) e') in
+          subst (In ops arc best' y) (sym jk) (y₀, subst (λ (i : ℕ). get_or best' i None ≡ Some y₀) (sym tw) same, subst (λ (t : V). ops.le y₀ t ≡ true) (sym xy ∙ ap (λ (t : V). ops.ext t (arc k)) x_is) (le_same laws y₀)))
           (λ ne.
           let z = f.closed j y o' d (λ fu'. below_but j k (h fu') ne) e' in
           let q = lower (arc j).to z.0 z.1 in

@@ -21,10 +21,10 @@ module _ {V : Type 0} {ops : Ops V} {fits : ℕ → V → Type 0} {clip : V → 
   pub relax_offer : (l : Arc) (y : V) → l ≡ arc k → usable k → l.from ≡ u → l.to < n → l.to < length best → y ≡ ops.ext x l → best' ≡ set best l.to (kept ops.le (get_or best l.to None) y) → Relaxed ops arc usable n u x before (k + 1) best'
   relax_offer l y le' o fu tn wl ye e =
       let to_is : l.to ≡ (arc k).to = ap (λ (t : Arc). t.to) le' in
-      let y-is : y ≡ ops.ext x (arc k) = ye ∙ ap (ops.ext x) le' in
+      let y_is : y ≡ ops.ext x (arc k) = ye ∙ ap (ops.ext x) le' in
       let P : ℕ → V → Type 0 = λ w z. best' ≡ set best w (kept ops.le (get_or best w None) z) in
       let e₁ : P (arc k).to y = subst (λ (w : ℕ). P w y) to_is e in
-      let e₂ : P (arc k).to (ops.ext x (arc k)) = subst (λ (z : V). P (arc k).to z) y-is e₁ in
+      let e₂ : P (arc k).to (ops.ext x (arc k)) = subst (λ (z : V). P (arc k).to z) y_is e₁ in
       let wl' : (arc k).to < length best = subst (λ (w : ℕ). w < length best) to_is wl in
       let tn' : (arc k).to < n = subst (λ (w : ℕ). w < n) to_is tn in
       subst (Relaxed ops arc usable n u x before (k + 1)) (sym e₂) (

@@ -1,4 +1,4 @@
--- That both gradings keep the laws.
+-- Proofs, not definitions: both gradings of this crate keep the laws of every grading.
 use Rattle.std.proofs.Common.{rules}
 use Rattle.std.specs.Prelude.{◌*◌, ◌≤◌, min}
 use Rattle.sweep.specs.Laws.{Laws, delay_ops, room_ops}

@@ -13,13 +13,13 @@ loop-v-preserved g c =
     let d = c.args.done.now in
     let b = c.args.best.now in
     let v = c.loop-v.v in
-    let in-best : v < length b = omega arith in
+    let in_best : v < length b = omega arith in
     elim c.if-not-done-v.branch [
       | then-not-done-v+in-Some w ↦
-          let read = sym (get_or_read b v w.index-best-v.result in-best w.index-best-v.is None) ∙ w.in-Some.is in
+          let read = sym (get_or_read b v w.index-best-v.result in_best w.index-best-v.is None) ∙ w.in-Some.is in
           subst (λ f. Picked le (v + 1) d b f) (sym (w.found-is ∙ w.first-found.ensures)) (picked_take laws d b c.loop-v.found v w.in-Some.x c.loop-v.invariant w.if-not-done-v.true read)
       | then-not-done-v+in_default w ↦
-          let read = sym (get_or_read b v w.index-best-v.result in-best w.index-best-v.is None) ∙ w.in_default.is in
+          let read = sym (get_or_read b v w.index-best-v.result in_best w.index-best-v.is None) ∙ w.in_default.is in
           subst (λ f. Picked le (v + 1) d b f) (sym w.found-is) (picked_pass laws d b c.loop-v.found v c.loop-v.invariant (λ _. read))
       | else-not-done-v w ↦
           subst (λ f. Picked le (v + 1) d b f) (sym w.found-is) (picked_pass laws d b c.loop-v.found v c.loop-v.invariant (λ e. absurd (both_ways (get_or d v false) e w.if-not-done-v.false)))

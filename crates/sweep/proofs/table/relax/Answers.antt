@@ -26,18 +26,18 @@ loop-k-preserved g c =
     let laws = g.met.G.Grading.lawful in
     let usable = Allowed arcs c.args.allowed.now in
     let a = c.arc-arc.result in
-    let a-is = c.arc-arc.ensures in
+    let a_is = c.arc-arc.ensures in
     let km : k < length arcs.arcs = omega (arith, c.loop-k-test.true, c.count-k-end.ensures) in
-    let from_is = ap (λ (x : Arc). x.from) a-is in
-    let to_is = ap (λ (x : Arc). x.to) a-is in
+    let from_is = ap (λ (x : Arc). x.from) a_is in
+    let to_is = ap (λ (x : Arc). x.to) a_is in
     let within = good.to_below k in
     let tn : a.to < arcs.points = omega arith in
     let tl : a.to < length c.loop-k.best = omega (arith, c.requires.table, c.loop-k.auto.best) in
-    let ranged : Ranged a = subst Ranged (sym a-is) (good.delay_most k, good.room_most k) in
+    let ranged : Ranged a = subst Ranged (sym a_is) (good.delay_most k, good.room_most k) in
     let skip = relax_skip laws (arc_at arcs) usable arcs.points c.args.u c.args.x c.args.best.now k c.loop-k.best c.if-marked.best c.loop-k.invariant in
     let offer = relax_offer laws (arc_at arcs) usable arcs.points c.args.u c.args.x c.args.best.now k c.loop-k.best c.if-marked.best c.loop-k.invariant in
     elim c.if-marked.branch [
-      | then-marked+then-arc-u b ↦ offer a b.extend.result a-is (km, sym b.if-marked.ensures) b.if-arc-u.true tn tl (b.extend.ensures ∙ extended laws c.args.x a ranged c.requires.fits) (b.best-is ∙ b.offer.ensures)
+      | then-marked+then-arc-u b ↦ offer a b.extend.result a_is (km, sym b.if-marked.ensures) b.if-arc-u.true tn tl (b.extend.ensures ∙ extended laws c.args.x a ranged c.requires.fits) (b.best-is ∙ b.offer.ensures)
       | else-marked b ↦ elim b.else-marked.branch [
         | else-marked-via-then-marked+else-arc-u b' ↦ skip (λ _ e. b'.if-arc-u.false (from_is ∙ e)) b.best-is
         | else-marked-via-else-marked b' ↦ skip (λ o _. both_ways (get_or c.args.allowed.now k false) (sym b'.if-marked.ensures) o.1) b.best-is
