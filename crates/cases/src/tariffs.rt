@@ -10,10 +10,9 @@ pub fn balanced_case() -> Result<u32, Refusal>
 {
     let tariff = Balanced::new(10, 4)?;
     Ok(tariff.price(Charges {
-        rate: 0,
-        class: 0,
         jitter: 3,
         loss: 2,
+        ..Charges::default()
     }))
 }
 
@@ -25,9 +24,7 @@ pub fn weight_case() -> Result<u32, Refusal>
     tariff.set_weight(0, 0, 5)?;
     Ok(tariff.price(Charges {
         rate: 30,
-        class: 0,
-        jitter: 0,
-        loss: 0,
+        ..Charges::default()
     }))
 }
 
@@ -40,7 +37,6 @@ pub fn busy_case() -> Result<u32, Refusal>
     Ok(tariff.price(Charges {
         rate: 30,
         class: 7,
-        jitter: 0,
-        loss: 0,
+        ..Charges::default()
     }))
 }

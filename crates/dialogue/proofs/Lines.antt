@@ -1,5 +1,5 @@
 -- The lines of a text, one after another.
-use Rattle.std.proofs.Common.{◌≡◌, ℕ, suc, ◌+◌, ◌<◌, Bool, true, false, cond, eqb, List, [], ◌∷◌, ◌++◌, length, take, drop, Ok, Err, codes, Result, sym, refl, ap, ◌∙◌, append_assoc, append-nil, arith, length-append, length-drop}
+use Rattle.std.proofs.Common.{◌≡◌, ℕ, suc, ◌+◌, ◌<◌, Bool, true, false, cond, eqb, List, [], ◌∷◌, ◌++◌, length, take, drop, Ok, Err, codes, Result, sym, refl, ap, ◌∙◌, append_assoc, append-nil, arith, length-append}
 use Rattle.network.specs.Drafts.{new_draft}
 use Rattle.network.specs.Net.{Net}
 use Rattle.network.specs.Refusals.{answered, left_by}
@@ -28,22 +28,11 @@ pub lines_more : (bs : List ℕ) → 0 < length bs → lines_of bs ≡ first_lin
 lines_more bs h = lines_on [] bs (omega arith)
 
 -- the text so far with what is still to be replied, one line on
-pub replies_more : (net : Net) (text answer more bs all : List ℕ) → 0 < length bs → text ++ replies net (lines_of bs) ≡ all → answer ≡ replied net (first_line bs) ++ codes "\n" → more ≡ after_line bs → (text ++ answer) ++ replies net (lines_of more) ≡ all
-replies_more net text answer more bs all h e a m =
-    append_assoc text answer (replies net (lines_of more))
-    ∙ ap (λ (x : List ℕ). text ++ (x ++ replies net (lines_of more))) a
-    ∙ ap (λ (x : List ℕ). text ++ ((replied net (first_line bs) ++ codes "\n") ++ replies net (lines_of x))) m
-    ∙ sym (ap (λ (ls : List (List ℕ)). text ++ replies net ls) (lines_more bs h))
-    ∙ e
-
--- where no line is left, the text so far is the whole
-pub replies_done : (net : Net) (text bs all : List ℕ) → length bs ≡ 0 → text ++ replies net (lines_of bs) ≡ all → text ≡ all
-replies_done net text [] all h e = sym (append-nil text) ∙ e
-replies_done net text (b ∷ bs) all h e = absurd (omega arith)
-
--- what follows a line is shorter
-pub after_shorter : (bs : List ℕ) → 0 < length bs → length (after_line bs) < length bs
-after_shorter bs h = let e = length-drop (first_newline bs + 1) bs in omega arith
+pub replies_more : (net : Net) (text line more bs all : List ℕ) → lines_of bs ≡ line ∷ lines_of more → text ++ replies net (lines_of bs) ≡ all → (text ++ (replied net line ++ codes "\n")) ++ replies net (lines_of more) ≡ all
+replies_more net text line more bs all e h =
+    append_assoc text (replied net line ++ codes "\n") (replies net (lines_of more))
+    ∙ sym (ap (λ (ls : List (List ℕ)). text ++ replies net ls) e)
+    ∙ h
 
 -- the response where the list was read, and where it has a fault
 pub responded_ok : (d is : Net) (r : Result Net Fault) (commands : List ℕ) → Ok tt ≡ answered r → is ≡ left_by d r → responded r commands ≡ replies is (lines_of commands)

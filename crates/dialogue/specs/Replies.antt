@@ -1,14 +1,17 @@
 -- What the console answers to commands, as text.
 use Rattle.std.specs.Prelude.{ℕ, List, ◌++◌, replicate, Ok, Err, codes, decimal, Result}
 use Rattle.network.specs.Net.{Net}
+use Rattle.network.specs.declared.refusal.Refusal.{Refusal}
 use Rattle.network.specs.Refusals.{number_of}
 use Rattle.sweep.specs.Values.{fastest_of, widest_of}
 use Rattle.text.specs.declared.commands.Command.{Command}
 use Rattle.text.specs.declared.commands.Command.TheVariants.{Fastest, Widest}
 use Rattle.text.specs.Commands.{commanded}
 use Rattle.text.specs.Listing.{Fault, fault_of, fault_text}
-use Rattle.dialogue.specs.declared.reply.Reply.{Reply}
-use Rattle.dialogue.specs.declared.reply.Reply.TheVariants.{Fastest as fast, Widest as wide, Refused, Fault as faulty}
+use Rattle.dialogue.specs.declared.reply.Answer.{Answer}
+use Rattle.dialogue.specs.declared.reply.Answer.TheVariants.{Fastest as fast, Widest as wide}
+use Rattle.dialogue.specs.declared.reply.Unanswered.{Unanswered}
+use Rattle.dialogue.specs.declared.reply.Unanswered.TheVariants.{Refused, Fault as faulty}
 
 -- A number after a word, in brackets.
 abbrev pub said : List ℕ → ℕ → List ℕ
@@ -17,12 +20,25 @@ said word n = word ++ (decimal n ++ codes ")")
 abbrev pub refused_text : ℕ → List ℕ
 refused_text n = said (codes "(refused ") n
 
+-- How an answer is printed.
+abbrev pub answer_text : Answer → List ℕ
+answer_text (fast v) = said (codes "(fastest ") v
+answer_text (wide v) = said (codes "(widest ") v
+
+-- How it is printed that there is none.
+abbrev pub unanswered_text : Unanswered → List ℕ
+unanswered_text (Refused e) = refused_text (number_of e)
+unanswered_text (faulty f) = fault_text (fault_of f)
+
 -- How a reply is printed.
-abbrev pub reply_text : Reply → List ℕ
-reply_text (fast v) = said (codes "(fastest ") v
-reply_text (wide v) = said (codes "(widest ") v
-reply_text (Refused e) = refused_text (number_of e)
-reply_text (faulty f) = fault_text (fault_of f)
+abbrev pub reply_text : Result Answer Unanswered → List ℕ
+reply_text (Ok a) = answer_text a
+reply_text (Err u) = unanswered_text u
+
+-- How it is printed what came of a command that was read.
+abbrev pub outcome_text : Result Answer Refusal → List ℕ
+outcome_text (Ok a) = answer_text a
+outcome_text (Err e) = refused_text (number_of e)
 
 -- The closure list of the console: every line is open.
 abbrev pub no_closures : List ℕ

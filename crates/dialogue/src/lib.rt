@@ -6,5 +6,5 @@ pub mod reply;
 pub mod response;
 
 pub use parts::{line_and_rest, list_and_commands};
-pub use reply::{Reply, execute, reply_to};
+pub use reply::{Answer, Unanswered, execute, reply_to};
 pub use response::respond;

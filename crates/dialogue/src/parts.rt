@@ -6,26 +6,23 @@ ghost use Rattle.dialogue.specs.Parts.{command_part, first_line, first_newline, 
 fn newline(bytes: &[u8]) -> usize
     ensures { result ≡ first_newline bytes.now }
 {
-    for (i, b) in bytes.iter().enumerate() {
-        if *b == b'\n' {
-            return i;
-        }
-    }
-    bytes.len()
+    bytes
+        .iter()
+        .position(|&b| b == b'\n')
+        .unwrap_or(bytes.len())
 }
 
 /// The place of the first empty line, or the length where there is none.
 fn empty_line(input: &[u8]) -> usize
     ensures { result ≡ parting true input.now }
 {
-    let mut fresh = true;
-    for (i, b) in input.iter().enumerate() {
-        if fresh && *b == b'\n' {
-            return i;
-        }
-        fresh = *b == b'\n';
+    if input.starts_with(b"\n") {
+        return 0;
     }
-    input.len()
+    match input.windows(2).position(|pair| pair == b"\n\n".as_slice()) {
+        Some(before) => before + 1,
+        None => input.len(),
+    }
 }
 
 /// The first `i` bytes, and what stands after the byte at `i`.
@@ -34,9 +31,9 @@ fn around(bytes: &[u8], i: usize) -> (&[u8], &[u8])
     ensures after { result.1.now ≡ drop (i + 1) bytes.now }
 {
     if i < bytes.len() {
-        (&bytes[0..i], &bytes[i + 1..])
+        (&bytes[..i], &bytes[i + 1..])
     } else {
-        (bytes, &bytes[bytes.len()..])
+        (bytes, &[])
     }
 }
 

@@ -1,11 +1,12 @@
 //! The whole response to an input.
-ghost use Rattle.std.specs.Prelude.{◌≡◌, ◌++◌, IfOk, string_bytes, codes};
+ghost use Rattle.std.specs.Prelude.{◌≡◌, ◌++◌, IfOk, OnOk, string_bytes, codes};
 ghost use Rattle.network.specs.Held.{sealed_net};
 ghost use Rattle.text.specs.Listing.{fault_of, fault_text};
 ghost use Rattle.dialogue.specs.Parts.{lines_of};
+ghost use Rattle.dialogue.specs.Replies.{replied};
 ghost use Rattle.dialogue.specs.Responses.{replies, response};
 
-use crate::parts::{line_and_rest, list_and_commands};
+use crate::parts::list_and_commands;
 use crate::reply::reply_to;
 use network::{Draft, SealedList};
 use std::alloc::{AllocError, Global};
@@ -35,13 +36,19 @@ fn reply_all(heap: Global, network: &SealedList, commands: &[u8]) -> Result<Stri
     ensures { IfOk result (λ t. string_bytes t ≡ replies (sealed_net network.now) (lines_of commands.now)) }
 {
     let mut text = String::new(heap);
-    let mut rest = commands;
-    while !rest.is_empty() {
-        let (line, more) = line_and_rest(rest);
-        let reply = reply_to(network, line);
-        let answer = format!(in heap; "{reply}\n")?;
-        text.push_str(answer.as_str())?;
-        rest = more;
+    for line in commands.split_inclusive(|&b| b == b'\n') {
+        let line = line.strip_suffix(b"\n").unwrap_or(line);
+        reply_line(&mut text, network, line)?;
     }
     Ok(text)
+}
+
+/// Adds the reply to a line of commands, on a line.
+fn reply_line(text: &mut String, network: &SealedList, line: &[u8]) -> Result<(), AllocError>
+    ensures { OnOk result (string_bytes text.new ≡ string_bytes text.old ++ (replied (sealed_net network.now) line.now ++ codes "\n")) }
+{
+    match reply_to(network, line) {
+        Ok(answer) => writeln!(text, "{answer}"),
+        Err(unanswered) => writeln!(text, "{unanswered}"),
+    }
 }

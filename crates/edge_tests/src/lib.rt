@@ -4,6 +4,8 @@
 #[cfg(test)]
 mod drafts;
 #[cfg(test)]
+mod given;
+#[cfg(test)]
 mod networks;
 #[cfg(test)]
 mod sweeps;

@@ -1,5 +1,6 @@
 //! What sealed lists, rings and loaded networks answer, and the numbers of refusals.
-use network::{Charges, Draft, Figure, Line, Loaded, Network, Refusal, Ring, Terms, line_figure};
+use crate::given::ring;
+use network::{Charges, Draft, Figure, Line, Loaded, Network, Refusal, Ring, Terms};
 use std::test::Fail;
 
 fn terms(room: u32) -> Terms {
@@ -41,30 +42,27 @@ fn a_list_in_its_order(rt: HostRuntime) -> Result<(), Fail> {
 
 /// The eight numbers of line k.
 fn figures<N: Network>(network: &N, k: u32) -> [u32; 8] {
-    [
-        line_figure(network, k, Figure::From),
-        line_figure(network, k, Figure::To),
-        line_figure(network, k, Figure::Delay),
-        line_figure(network, k, Figure::Rate),
-        line_figure(network, k, Figure::Class),
-        line_figure(network, k, Figure::Room),
-        line_figure(network, k, Figure::Jitter),
-        line_figure(network, k, Figure::Loss),
-    ]
+    let all = [
+        Figure::From,
+        Figure::To,
+        Figure::Delay,
+        Figure::Rate,
+        Figure::Class,
+        Figure::Room,
+        Figure::Jitter,
+        Figure::Loss,
+    ];
+    all.map(|which| network.figure(k, which))
 }
 
 #[test]
 fn one_number_at_a_time(rt: HostRuntime) -> Result<(), Fail> {
-    match Ring::new(4, terms(6)) {
-        Ok(ring) => {
-            assert_eq!(rt; figures(&ring, 3), [3, 0, 3, 4, 5, 6, 7, 8]);
-            assert_eq!(rt; figures(&ring, 4), [1, 0, 3, 4, 5, 6, 7, 8]);
-            assert_eq!(rt; figures(&ring, 7), [0, 3, 3, 4, 5, 6, 7, 8]);
-            assert_eq!(rt; figures(&ring, 8), [0; 8]);
-            Ok(())
-        }
-        Err(_) => Err(Fail::new("the ring is refused")),
-    }
+    let ring = ring(4, terms(6))?;
+    assert_eq!(rt; figures(&ring, 3), [3, 0, 3, 4, 5, 6, 7, 8]);
+    assert_eq!(rt; figures(&ring, 4), [1, 0, 3, 4, 5, 6, 7, 8]);
+    assert_eq!(rt; figures(&ring, 7), [0, 3, 3, 4, 5, 6, 7, 8]);
+    assert_eq!(rt; figures(&ring, 8), [0; 8]);
+    Ok(())
 }
 
 #[test]
@@ -79,50 +77,36 @@ fn rings_at_their_edges(rt: HostRuntime) {
 /// The rooms of the first five lines of a network under these loads.
 fn rooms<N: Network>(under: &N, loads: &[u32]) -> [u32; 5] {
     let net = Loaded::new(under, loads);
-    [
-        line_figure(&net, 0, Figure::Room),
-        line_figure(&net, 1, Figure::Room),
-        line_figure(&net, 2, Figure::Room),
-        line_figure(&net, 3, Figure::Room),
-        line_figure(&net, 4, Figure::Room),
-    ]
+    [0, 1, 2, 3, 4].map(|k| net.figure(k, Figure::Room))
 }
 
 #[test]
 fn loads_lower_rooms(rt: HostRuntime) -> Result<(), Fail> {
-    match Ring::new(2, terms(6)) {
-        Ok(ring) => {
-            assert_eq!(rt; rooms(&ring, &[1, 6, 7, 0]), [5, 0, 0, 6, 0]);
-            assert_eq!(rt;
-                rooms(&ring, &[1, 6, 7, 0, 9]),
-                [5, 0, 0, 6, 0],
-                "a table past the last line"
-            );
-            assert_eq!(rt;
-                rooms(&ring, &[2]),
-                [4, 6, 6, 6, 0],
-                "a table that ends early"
-            );
-            Ok(())
-        }
-        Err(_) => Err(Fail::new("the ring is refused")),
-    }
+    let ring = ring(2, terms(6))?;
+    assert_eq!(rt; rooms(&ring, &[1, 6, 7, 0]), [5, 0, 0, 6, 0]);
+    assert_eq!(rt;
+        rooms(&ring, &[1, 6, 7, 0, 9]),
+        [5, 0, 0, 6, 0],
+        "a table past the last line"
+    );
+    assert_eq!(rt;
+        rooms(&ring, &[2]),
+        [4, 6, 6, 6, 0],
+        "a table that ends early"
+    );
+    Ok(())
 }
 
 #[test]
 fn loads_change_no_other_number(rt: HostRuntime) -> Result<(), Fail> {
-    match Ring::new(2, terms(6)) {
-        Ok(ring) => {
-            let loads = [1, 1, 1, 1];
-            let net = Loaded::new(&ring, &loads);
-            assert_eq!(rt; net.points(), 2);
-            assert_eq!(rt; net.line_count(), 4);
-            assert_eq!(rt; figures(&net, 3), [0, 1, 3, 4, 5, 5, 7, 8]);
-            assert_eq!(rt; rooms(&net, &[2, 3, 4, 5]), [3, 2, 1, 0, 0], "loaded twice");
-            Ok(())
-        }
-        Err(_) => Err(Fail::new("the ring is refused")),
-    }
+    let ring = ring(2, terms(6))?;
+    let loads = [1, 1, 1, 1];
+    let net = Loaded::new(&ring, &loads);
+    assert_eq!(rt; net.points(), 2);
+    assert_eq!(rt; net.line_count(), 4);
+    assert_eq!(rt; figures(&net, 3), [0, 1, 3, 4, 5, 5, 7, 8]);
+    assert_eq!(rt; rooms(&net, &[2, 3, 4, 5]), [3, 2, 1, 0, 0], "loaded twice");
+    Ok(())
 }
 
 #[test]
@@ -133,8 +117,6 @@ fn numbers_of_refusals(rt: HostRuntime) {
         Refusal::TooManyLines,
         Refusal::BadMargin,
         Refusal::BadWeight,
-    ];
-    let next = [
         Refusal::BadBound,
         Refusal::BadStart,
         Refusal::NoSuchPoint,
@@ -142,10 +124,8 @@ fn numbers_of_refusals(rt: HostRuntime) {
         Refusal::BadChannels,
         Refusal::BadLimit,
     ];
-    let mut number = 4;
-    for refusal in low.iter().chain(next.iter()) {
+    for (number, refusal) in (4..).zip(&low) {
         assert_eq!(rt; refusal.number(), number);
-        number = number.saturating_add(1);
     }
     let high = [
         Refusal::ShortClosures,
@@ -153,16 +133,12 @@ fn numbers_of_refusals(rt: HostRuntime) {
         Refusal::BookFull,
         Refusal::NumbersSpent,
         Refusal::NoRun,
-    ];
-    let last = [
         Refusal::NotStanding,
         Refusal::NoSuchLine,
         Refusal::NoSuchPlace,
         Refusal::NoColumn,
     ];
-    let mut number = 16;
-    for refusal in high.iter().chain(last.iter()) {
+    for (number, refusal) in (16..).zip(&high) {
         assert_eq!(rt; refusal.number(), number);
-        number = number.saturating_add(1);
     }
 }

@@ -1,31 +1,28 @@
 //! Fastest and widest over a ring, with tables and closure lists at their edges.
+use crate::given::ring;
 use network::{Charges, Loaded, Refusal, Ring, Terms};
 use std::test::Fail;
 use sweep::{fastest, widest};
 
 /// A ring of 4 points with delay 5 and room 3.
-fn ring() -> Result<Ring, Refusal> {
+fn ring_of_four() -> Result<Ring, Fail> {
     let charges = Charges {
         rate: 1,
         class: 0,
         jitter: 0,
         loss: 0,
     };
-    Ring::new(
-        4,
-        Terms {
-            delay: 5,
-            room: 3,
-            charges,
-        },
-    )
+    let terms = Terms {
+        delay: 5,
+        room: 3,
+        charges,
+    };
+    ring(4, terms)
 }
 
 #[test]
 fn both_ways_round(rt: HostRuntime) -> Result<(), Fail> {
-    let Ok(ring) = ring() else {
-        return Err(Fail::new("the ring is refused"));
-    };
+    let ring = ring_of_four()?;
     let mut table = [Some(77); 5];
     assert_eq!(rt; fastest(&ring, &[0; 8], 0, 3, 3, &mut table), Ok(5));
     assert_eq!(rt;
@@ -46,9 +43,7 @@ fn both_ways_round(rt: HostRuntime) -> Result<(), Fail> {
 
 #[test]
 fn questions_in_their_order(rt: HostRuntime) -> Result<(), Fail> {
-    let Ok(ring) = ring() else {
-        return Err(Fail::new("the ring is refused"));
-    };
+    let ring = ring_of_four()?;
     let mut table = [None; 3];
     assert_eq!(rt;
         fastest(&ring, &[], 4, 4, 0, &mut table),
@@ -88,9 +83,7 @@ fn questions_in_their_order(rt: HostRuntime) -> Result<(), Fail> {
 
 #[test]
 fn no_run_fills_the_table(rt: HostRuntime) -> Result<(), Fail> {
-    let Ok(ring) = ring() else {
-        return Err(Fail::new("the ring is refused"));
-    };
+    let ring = ring_of_four()?;
     let mut table = [Some(77); 4];
     assert_eq!(rt;
         fastest(&ring, &[0; 8], 0, 3, 4, &mut table),

@@ -1,4 +1,5 @@
 //! Prices and settings of the tariffs.
+use crate::given::outside;
 use network::{Charges, Refusal};
 use std::process::Abort;
 use std::test::Fail;
@@ -14,22 +15,9 @@ const TOP: Charges = Charges {
 
 /// The price is 0 where one of the four numbers is above its range.
 fn none_outside<T: Tariff>(rt: &impl Abort, tariff: &T) -> Result<(), Fail> {
-    assert_eq!(rt;
-        tariff.price(Charges {
-            rate: 10_001,
-            ..TOP
-        }),
-        0
-    );
-    assert_eq!(rt; tariff.price(Charges { class: 8, ..TOP }), 0);
-    assert_eq!(rt;
-        tariff.price(Charges {
-            jitter: 1_001,
-            ..TOP
-        }),
-        0
-    );
-    assert_eq!(rt; tariff.price(Charges { loss: 1_001, ..TOP }), 0);
+    for charges in outside(TOP) {
+        assert_eq!(rt; tariff.price(charges), 0);
+    }
     Ok(())
 }
 
@@ -46,18 +34,14 @@ fn bounds_at_their_edges(rt: HostRuntime) -> Result<(), Fail> {
     assert!(rt; Balanced::new(1_001, 1).is_err());
     assert!(rt; Balanced::new(1, 1_001).is_err());
     assert!(rt; Balanced::new(1, 1).is_ok());
-    match Balanced::new(1_000, 1) {
-        Ok(tariff) => {
-            assert_eq!(rt; tariff.price(TOP), 1_000_000, "loss by the jitter bound");
-            assert_eq!(rt;
-                tariff.price(Charges { loss: 0, ..TOP }),
-                1_000,
-                "jitter by the loss bound"
-            );
-            none_outside(&rt, &tariff)
-        }
-        Err(_) => Err(Fail::new("the bounds are refused")),
-    }
+    let tariff = Balanced::new(1_000, 1).map_err(|_| Fail::new("the bounds are refused"))?;
+    assert_eq!(rt; tariff.price(TOP), 1_000_000, "loss by the jitter bound");
+    assert_eq!(rt;
+        tariff.price(Charges { loss: 0, ..TOP }),
+        1_000,
+        "jitter by the loss bound"
+    );
+    none_outside(&rt, &tariff)
 }
 
 #[test]

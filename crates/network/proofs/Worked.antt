@@ -1,29 +1,15 @@
 -- Networks whose lines are worked out from a number, and lines that are not there.
-use Rattle.std.proofs.Common.{◌≡◌, ℕ, ◌-◌, ◌<◌, ◌≤◌, List, map, length, get_or, sym, refl, ap, ◌∙◌, ⊎_elim, arith}
+use Rattle.std.proofs.Common.{◌≡◌, ℕ, ◌-◌, ◌*◌, ◌<◌, ◌≤◌, List, map, length, get_or, sym, ap, ◌∙◌, ⊎_elim, arith}
 use Rattle.std.specs.List.{range_with_len}
 use Rattle.std.proofs.lemmas.List.FromFn.{length-map-range_with_len}
 use Rattle.std.proofs.lemmas.List.{get_or_past}
 use Rattle.std.proofs.lemmas.Bool.{cases_lt}
-use Rattle.network.specs.declared.line.Figure.{Figure}
-use Rattle.network.specs.declared.line.Figure.TheVariants.{From, To, Delay, Rate, Class, Room, Jitter, Loss}
 use Rattle.network.specs.declared.line.Line.{Line}
-use Rattle.network.specs.Net.{Net, no_line, line_at, figure_of}
+use Rattle.network.specs.Net.{Net, no_line, line_at}
 use Rattle.network.specs.Loads.{loaded, lowered, lowered_at}
+use Rattle.network.specs.declared.line.Terms.{Terms}
+use Rattle.network.specs.Rings.{ring, ring_line}
 use Rattle.network.specs.Shown.{made_at}
-
-pub no_figure : (which : Figure) → figure_of which no_line ≡ 0
-no_figure From = refl
-no_figure To = refl
-no_figure Delay = refl
-no_figure Rate = refl
-no_figure Class = refl
-no_figure Room = refl
-no_figure Jitter = refl
-no_figure Loss = refl
-
--- past the last line every number is 0
-pub figure_past : (net : Net) (k : ℕ) (which : Figure) → length net.lines ≤ k → figure_of which (line_at net k) ≡ 0
-figure_past net k which h = ap (figure_of which) (get_or_past net.lines k no_line h) ∙ no_figure which
 
 pub made_past : (f : ℕ → Line) (m k : ℕ) → m ≤ k → get_or (map f (range_with_len 0 m)) k no_line ≡ no_line
 made_past f m k h = let e = length-map-range_with_len f 0 m in get_or_past (map f (range_with_len 0 m)) k no_line (omega arith)
@@ -45,6 +31,14 @@ loaded_at net loads k =
     made_past (lowered_at net loads) (length net.lines) k le ∙ lowered_none no_line (get_or loads k 0) (omega arith) ∙ ap (λ (l : Line). lowered l (get_or loads k 0)) (sym none))
     (cases_lt k (length net.lines))
 
--- a line past the end of the loads is as it was
-pub loaded_beyond : (net : Net) (loads : List ℕ) (k : ℕ) → length loads ≤ k → line_at net k ≡ line_at (loaded net loads) k
-loaded_beyond net loads k h = let z = get_or_past loads k 0 h in lowered_none (line_at net k) (get_or loads k 0) (omega arith) ∙ sym (loaded_at net loads k)
+pub loaded_count : (net : Net) (loads : List ℕ) → length (loaded net loads).lines ≡ length net.lines
+loaded_count net loads = length-map-range_with_len (lowered_at net loads) 0 (length net.lines)
+
+pub ring_count : (n : ℕ) (t : Terms) → length (ring n t).lines ≡ 2 * n
+ring_count n t = length-map-range_with_len (ring_line n t) 0 (2 * n)
+
+pub ring_at : (n : ℕ) (t : Terms) (k : ℕ) → k < 2 * n → line_at (ring n t) k ≡ ring_line n t k
+ring_at n t k h = made_at (ring_line n t) (2 * n) k h
+
+pub ring_past : (n : ℕ) (t : Terms) (k : ℕ) → 2 * n ≤ k → line_at (ring n t) k ≡ no_line
+ring_past n t k h = made_past (ring_line n t) (2 * n) k h

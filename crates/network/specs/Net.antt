@@ -1,5 +1,6 @@
 -- What a network means, and which numbers it may hold.
-use Rattle.std.specs.Prelude.{ℕ, ◌<◌, ◌≤◌, Bool, true, ◌&&◌, List, [], ◌∷◌, length, nat_le, nat_lt, slice_index_or}
+use Rattle.std.specs.Prelude.{ℕ, ◌<◌, ◌≤◌, Bool, ◌&&◌, List, length, nat_le, nat_lt, slice_index_or}
+use Rattle.std.specs.List.{list_all}
 use Rattle.network.specs.declared.line.Charges.{Charges}
 use Rattle.network.specs.declared.line.Terms.{Terms}
 use Rattle.network.specs.declared.line.Line.{Line}
@@ -42,18 +43,13 @@ in_range least t = nat_le t.delay 1000000 && (nat_le least t.room && (nat_le t.r
 abbrev pub ends_below : ℕ → Line → Bool
 ends_below n l = nat_lt l.from n && nat_lt l.to n
 
--- Whether each line passes a test.
-abbrev pub each_passes : (Line → Bool) → List Line → Bool
-each_passes test [] = true
-each_passes test (l ∷ ls) = test l && each_passes test ls
-
 -- Whether each line has both ends below n.
 abbrev pub all_below : ℕ → List Line → Bool
-all_below n ls = each_passes (ends_below n) ls
+all_below n ls = list_all (ends_below n) ls
 
 -- Whether each line has its numbers in range, with room for at least `least` channels.
 abbrev pub all_in_range : ℕ → List Line → Bool
-all_in_range least ls = each_passes (λ l. in_range least l.terms) ls
+all_in_range least ls = list_all (λ l. in_range least l.terms) ls
 
 -- What holds of the line at any number in a network of n points.
 pub record Fit (n : ℕ) (l : Line) : Type 0 where

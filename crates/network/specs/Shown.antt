@@ -1,39 +1,54 @@
 -- Proofs, not definitions: the networks of this crate keep the ranges.
-use Rattle.std.specs.Prelude.{◌≡◌, ℕ, zero, suc, ◌+◌, ◌-◌, ◌*◌, ◌%◌, ◌<◌, ◌≤◌, Bool, true, cond, ◌&&◌, List, [], ◌∷◌, map, length, get_or, vec_items, nat_le, nat_lt, slice_index_or}
-use Rattle.std.proofs.Common.{⊎_elim, sym, subst, mod-lt, not-suc-le-zero, le_of_suc-le-suc, arith}
+use Rattle.std.specs.Prelude.{◌≡◌, ℕ, ◌+◌, ◌-◌, ◌*◌, ◌%◌, ◌<◌, ◌≤◌, Bool, true, cond, ◌&&◌, List, map, length, get_or, vec_items, nat_le, nat_lt, slice_index_or}
+use Rattle.std.proofs.Common.{⊎_elim, sym, subst, mod-lt, arith}
 use Rattle.std.specs.List.{range_with_len}
 use Rattle.std.proofs.lemmas.List.FromFn.{length-map-range_with_len, get_or-map-range_with_len}
 use Rattle.std.proofs.lemmas.List.{get_or_past}
+use Rattle.std.proofs.lemmas.List.Elements.{All-get_or}
+use Rattle.std.proofs.lemmas.List.Sums.{AllPass-from_list_all}
+use Rattle.std.specs.List.{list_all}
 use Rattle.std.proofs.lemmas.Bool.{and_parts, cases_lt, leb-true, ltb-true, lt-ltb, le-ltb}
 use Rattle.network.specs.declared.draft.Draft.{Draft}
+use Rattle.network.specs.declared.line.Charges.{Charges}
 use Rattle.network.specs.declared.line.Line.{Line}
 use Rattle.network.specs.declared.line.Terms.{Terms}
 use Rattle.network.specs.declared.ring.Ring.{Ring}
-use Rattle.network.specs.Net.{Net, no_line, line_at, chargeable, in_range, ends_below, each_passes, all_below, all_in_range, Fit, Ranged}
+use Rattle.network.specs.Net.{Net, no_line, line_at, chargeable, in_range, ends_below, all_below, all_in_range, Fit, Ranged}
 use Rattle.network.specs.Rings.{ring_line}
 use Rattle.network.specs.Loads.{loaded, lowered_at}
 use Rattle.network.specs.Held.{drawn, ring_net}
+
+-- What a tariff sees of a line, in a line's ranges.
+pub record Ranges (c : Charges) : Type 0 where
+  pub rate_most : c.rate ≤ 10000
+  pub class_most : c.class ≤ 7
+  pub jitter_most : c.jitter ≤ 1000
+  pub loss_most : c.loss ≤ 1000
+
+pub ranges : (c : Charges) → chargeable c ≡ true → Ranges c
+ranges c h =
+    let u = and_parts (nat_le c.rate 10000) (nat_le c.class 7 && (nat_le c.jitter 1000 && nat_le c.loss 1000)) h in
+    let v = and_parts (nat_le c.class 7) (nat_le c.jitter 1000 && nat_le c.loss 1000) u.1 in
+    let w = and_parts (nat_le c.jitter 1000) (nat_le c.loss 1000) v.1 in
+    record { rate_most = leb-true _ _ u.0; class_most = leb-true _ _ v.0; jitter_most = leb-true _ _ w.0; loss_most = leb-true _ _ w.1 }
 
 -- Terms that pass the test, between ends that are below n, make a line that fits.
 pub fit_from : (least n : ℕ) (l : Line) → l.from < n → l.to < n → in_range least l.terms ≡ true → Fit n l
 fit_from least n l a b h =
     let t = l.terms in
-    let c = t.charges in
-    let p = and_parts (nat_le t.delay 1000000) (nat_le least t.room && (nat_le t.room 1000 && chargeable c)) h in
-    let q = and_parts (nat_le least t.room) (nat_le t.room 1000 && chargeable c) p.1 in
-    let r = and_parts (nat_le t.room 1000) (chargeable c) q.1 in
-    let u = and_parts (nat_le c.rate 10000) (nat_le c.class 7 && (nat_le c.jitter 1000 && nat_le c.loss 1000)) r.1 in
-    let v = and_parts (nat_le c.class 7) (nat_le c.jitter 1000 && nat_le c.loss 1000) u.1 in
-    let w = and_parts (nat_le c.jitter 1000) (nat_le c.loss 1000) v.1 in
+    let p = and_parts (nat_le t.delay 1000000) (nat_le least t.room && (nat_le t.room 1000 && chargeable t.charges)) h in
+    let q = and_parts (nat_le least t.room) (nat_le t.room 1000 && chargeable t.charges) p.1 in
+    let r = and_parts (nat_le t.room 1000) (chargeable t.charges) q.1 in
+    let c = ranges t.charges r.1 in
     record {
       from_below = a;
       to_below = b;
       delay_most = leb-true _ _ p.0;
       room_most = leb-true _ _ r.0;
-      rate_most = leb-true _ _ u.0;
-      class_most = leb-true _ _ v.0;
-      jitter_most = leb-true _ _ w.0;
-      loss_most = leb-true _ _ w.1;
+      rate_most = c.rate_most;
+      class_most = c.class_most;
+      jitter_most = c.jitter_most;
+      loss_most = c.loss_most;
     }
 
 -- Where there is no line, all zeros fit.
@@ -56,10 +71,8 @@ ranged_from net two most few h =
     }
 
 -- What passes for each line of a list passes for the line at a number.
-pub passes_at : (test : Line → Bool) (ls : List Line) (k : ℕ) → each_passes test ls ≡ true → k < length ls → test (slice_index_or ls k no_line) ≡ true
-passes_at test [] k p h = absurd (not-suc-le-zero h)
-passes_at test (l ∷ ls) zero p h = (and_parts (test l) (each_passes test ls) p).0
-passes_at test (l ∷ ls) (suc k) p h = passes_at test ls k (and_parts (test l) (each_passes test ls) p).1 (le_of_suc-le-suc h)
+pub passes_at : (test : Line → Bool) (ls : List Line) (k : ℕ) → list_all test ls ≡ true → k < length ls → test (slice_index_or ls k no_line) ≡ true
+passes_at test ls k p h = All-get_or (λ l. test l ≡ true) ls k no_line h (AllPass-from_list_all test ls p)
 
 fit_at : (least n : ℕ) (ls : List Line) (k : ℕ) → all_below n ls ≡ true → all_in_range least ls ≡ true → k < length ls → Fit n (slice_index_or ls k no_line)
 fit_at least n ls k b r h =

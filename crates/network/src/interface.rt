@@ -22,21 +22,15 @@ pub trait Network {
         ensures { result ≡ length (net self.now).lines };
 
     /// Line k, or all zeros where there is none.
+    // Stays: it is a rule of the project that no question of a network refuses, so there is no Option to take apart.
     fn line(&self, k: u32) -> Line
         ensures { result ≡ line_at (net self.now) k };
-}
 
-/// One number of line k, or 0 where there is no such line.
-pub fn line_figure<N: Network>(network: &N, k: u32, which: Figure) -> u32
-    ensures value { result ≡ figure_of which (line_at (N.Network.net network.now) k) }
-    ensures past { length (N.Network.net network.now).lines ≤ k → result ≡ 0 }
-{
-    figure_at(network, k, which)
-}
-
-/// The number of line k that a figure names.
-fn figure_at<N: Network>(network: &N, k: u32, which: Figure) -> u32
-    ensures { result ≡ figure_of which (line_at (N.Network.net network.now) k) }
-{
-    network.line(k).figure(which)
+    /// One number of line k, or 0 where there is no such line.
+    final fn figure(&self, k: u32, which: Figure) -> u32
+        ensures value { result ≡ figure_of which (line_at (net self.now) k) }
+        ensures past { length (net self.now).lines ≤ k → result ≡ 0 }
+    {
+        self.line(k).figure(which)
+    }
 }

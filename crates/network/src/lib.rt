@@ -10,7 +10,7 @@ pub mod ring;
 pub mod sealed;
 
 pub use draft::Draft;
-pub use interface::{Network, line_figure};
+pub use interface::Network;
 pub use line::{Charges, Figure, Line, Terms};
 pub use loaded::Loaded;
 pub use refusal::Refusal;

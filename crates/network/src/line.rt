@@ -3,7 +3,7 @@ ghost use Rattle.std.specs.Prelude.{◌≡◌};
 ghost use Rattle.network.specs.Net.{chargeable, figure_of, in_range, no_line};
 
 /// What a tariff sees of a line.
-#[derive(Clone, Copy, PartialEq, Eq, Debug)]
+#[derive(Clone, Copy, PartialEq, Eq, Debug, Default)]
 pub struct Charges {
     /// The rate, 0 to 10,000.
     pub rate: u32,
@@ -16,7 +16,7 @@ pub struct Charges {
 }
 
 /// The numbers of a line besides its ends.
-#[derive(Clone, Copy, PartialEq, Eq, Debug)]
+#[derive(Clone, Copy, PartialEq, Eq, Debug, Default)]
 pub struct Terms {
     /// The delay in microseconds, 0 to 1,000,000.
     pub delay: u32,
@@ -26,7 +26,7 @@ pub struct Terms {
 }
 
 /// A line: a directed link from one point to another, with a capacity.
-#[derive(Clone, Copy, PartialEq, Eq, Debug)]
+#[derive(Clone, Copy, PartialEq, Eq, Debug, Default)]
 pub struct Line {
     pub from: u32,
     pub to: u32,
@@ -72,22 +72,7 @@ impl Line {
     pub fn none() -> Line
         ensures { result ≡ no_line }
     {
-        let charges = Charges {
-            rate: 0,
-            class: 0,
-            jitter: 0,
-            loss: 0,
-        };
-        let terms = Terms {
-            delay: 0,
-            room: 0,
-            charges,
-        };
-        Line {
-            from: 0,
-            to: 0,
-            terms,
-        }
+        Line::default()
     }
 
     /// One number of the line.

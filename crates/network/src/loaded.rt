@@ -1,5 +1,5 @@
 //! A network with part of each line's room taken.
-ghost use Rattle.std.specs.Prelude.{◌≡◌, length};
+ghost use Rattle.std.specs.Prelude.{◌≡◌};
 ghost use Rattle.network.specs.Loads.{loaded as lowered_net, lowered as lowered_line};
 ghost use Rattle.network.specs.Shown.{loaded_ranged};
 
@@ -22,13 +22,6 @@ impl<'n, 'l, N: Network> Loaded<'n, 'l, N> {
     {
         Loaded { under, loads }
     }
-
-    /// How many lines the network below has.
-    fn count(&self) -> u32
-        ensures { result ≡ length (N.Network.net self.now.under.now).lines }
-    {
-        self.under.line_count()
-    }
 }
 
 impl<N: Network> Network for Loaded<'_, '_, N> {
@@ -40,16 +33,15 @@ impl<N: Network> Network for Loaded<'_, '_, N> {
         self.under.points()
     }
 
+    #[tactic(auto, using(crate::proofs::Worked::loaded_count))]
     fn line_count(&self) -> u32 {
-        self.count()
+        self.under.line_count()
     }
 
+    #[tactic(auto, using(crate::proofs::Worked::loaded_at))]
     fn line(&self, k: u32) -> Line {
-        let line = self.under.line(k);
-        match self.loads.get(k as usize) {
-            Some(load) => lowered(line, *load),
-            None => line,
-        }
+        let load = self.loads.get(k as usize).copied().unwrap_or(0);
+        lowered(self.under.line(k), load)
     }
 }
 

@@ -2,49 +2,49 @@
 ghost use Rattle.std.specs.Prelude.{◌≡◌};
 ghost use Rattle.network.specs.Refusals.{number_of};
 
-/// A refusal. Its number is what documents and printed answers call it by.
+/// A refusal, with its number, which is what documents and printed answers call it by.
 #[derive(Clone, Copy, PartialEq, Eq, Debug)]
 pub enum Refusal {
     /// A number of a network is out of its range.
-    OutOfRange,
+    OutOfRange = 4,
     /// An end of a line is not below the point count.
-    NoSuchEnd,
+    NoSuchEnd = 5,
     /// There would be more than 512 lines.
-    TooManyLines,
+    TooManyLines = 6,
     /// The margin p/q has not 1 ≤ p ≤ q ≤ 1,000.
-    BadMargin,
+    BadMargin = 7,
     /// A period, a row, a class or a weight of a period tariff is out of its range.
-    BadWeight,
+    BadWeight = 8,
     /// A bound of a balanced tariff is not 1 to 1,000.
-    BadBound,
+    BadBound = 9,
     /// A start number is not 1 to 4,000,000,000.
-    BadStart,
+    BadStart = 10,
     /// A point is not below the point count.
-    NoSuchPoint,
+    NoSuchPoint = 11,
     /// The two points are the same.
-    SamePoint,
+    SamePoint = 12,
     /// The channels asked for are not 1 to 1,000.
-    BadChannels,
+    BadChannels = 13,
     /// The delay limit is above 63,000,000.
-    BadLimit,
+    BadLimit = 14,
     /// The closure list has fewer bytes than the network has lines.
-    ShortClosures,
+    ShortClosures = 16,
     /// The table handed in has too few places.
-    ShortTable,
+    ShortTable = 17,
     /// 32 bookings stand already.
-    BookFull,
+    BookFull = 18,
     /// The next booking number would be above 4,000,000,000.
-    NumbersSpent,
+    NumbersSpent = 19,
     /// No open run keeps the limit, or, for a sweep, none exists.
-    NoRun,
+    NoRun = 20,
     /// No booking with that number stands.
-    NotStanding,
+    NotStanding = 21,
     /// A line number is not below the line count.
-    NoSuchLine,
+    NoSuchLine = 22,
     /// Fewer bookings stand than the place asked for.
-    NoSuchPlace,
+    NoSuchPlace = 23,
     /// The last search found no column.
-    NoColumn,
+    NoColumn = 24,
 }
 
 impl Refusal {
@@ -52,27 +52,6 @@ impl Refusal {
     pub fn number(self) -> u32
         ensures { result ≡ number_of self }
     {
-        match self {
-            Refusal::OutOfRange => 4,
-            Refusal::NoSuchEnd => 5,
-            Refusal::TooManyLines => 6,
-            Refusal::BadMargin => 7,
-            Refusal::BadWeight => 8,
-            Refusal::BadBound => 9,
-            Refusal::BadStart => 10,
-            Refusal::NoSuchPoint => 11,
-            Refusal::SamePoint => 12,
-            Refusal::BadChannels => 13,
-            Refusal::BadLimit => 14,
-            Refusal::ShortClosures => 16,
-            Refusal::ShortTable => 17,
-            Refusal::BookFull => 18,
-            Refusal::NumbersSpent => 19,
-            Refusal::NoRun => 20,
-            Refusal::NotStanding => 21,
-            Refusal::NoSuchLine => 22,
-            Refusal::NoSuchPlace => 23,
-            Refusal::NoColumn => 24,
-        }
+        self as u32
     }
 }

@@ -4,23 +4,14 @@ ghost use Rattle.ratecard.specs.Card.{card_prices, card_weight};
 ghost use Rattle.tariff.specs.Prices.{balanced_price, rate_price};
 
 use network::{Charges, Line, Network, Refusal};
-use std::io;
+use std::{fmt, io};
 use tariff::{Balanced, Period, Rate, Tariff};
-
-/// One thing for each period.
-#[derive(Clone, Copy)]
-struct ByPeriod<T> {
-    p0: T,
-    p1: T,
-    p2: T,
-    p3: T,
-}
 
 /// The tariffs of the card: the period tariff once for each period.
 #[derive(Clone, Copy)]
 pub(crate) struct Tariffs {
     rate: Rate,
-    periods: ByPeriod<Period>,
+    periods: [Period; 4],
     balanced: Balanced,
 }
 
@@ -28,13 +19,29 @@ pub(crate) struct Tariffs {
 #[derive(Clone, Copy)]
 pub(crate) struct Prices {
     rate: u32,
-    periods: ByPeriod<u32>,
+    periods: [u32; 4],
     balanced: u32,
+}
+
+impl fmt::Display for Prices {
+    fn fmt<W: fmt::Write>(&self, f: &mut fmt::Formatter<W>) -> fmt::Result {
+        let Prices {
+            rate,
+            periods,
+            balanced,
+        } = self;
+        write!(f, "{rate:>8}")?;
+        for price in periods {
+            write!(f, "{price:>8}")?;
+        }
+        write!(f, "{balanced:>9}")
+    }
 }
 
 /// The weight of a period and a class on this card.
 fn card_weight(period: u32, class: u32) -> u32
-    requires { (period ≤ 3) × (class ≤ 7) }
+    requires period { period ≤ 3 }
+    requires class { class ≤ 7 }
     ensures { result ≡ card_weight period class }
 {
     1 + period * (class + 1)
@@ -52,14 +59,16 @@ fn in_period(period: u32) -> Result<Period, Refusal> {
     Ok(tariff)
 }
 
+/// What charges cost under each of these period tariffs.
+fn prices_in(periods: [Period; 4], charges: Charges) -> [u32; 4]
+    ensures { result ≡ card_prices periods charges }
+{
+    periods.map(|tariff| tariff.price(charges))
+}
+
 impl Tariffs {
     pub(crate) fn new() -> Result<Tariffs, Refusal> {
-        let periods = ByPeriod {
-            p0: in_period(0)?,
-            p1: in_period(1)?,
-            p2: in_period(2)?,
-            p3: in_period(3)?,
-        };
+        let periods = [in_period(0)?, in_period(1)?, in_period(2)?, in_period(3)?];
         let balanced = Balanced::new(10, 4)?;
         Ok(Tariffs {
             rate: Rate,
@@ -73,16 +82,9 @@ impl Tariffs {
         ensures balanced { result.balanced ≡ balanced_price self.now.balanced.jitter_bound self.now.balanced.loss_bound charges }
         ensures periods { result.periods ≡ card_prices self.now.periods charges }
     {
-        let ByPeriod { p0, p1, p2, p3 } = self.periods;
-        let periods = ByPeriod {
-            p0: p0.price(charges),
-            p1: p1.price(charges),
-            p2: p2.price(charges),
-            p3: p3.price(charges),
-        };
         Prices {
             rate: self.rate.price(charges),
-            periods,
+            periods: prices_in(self.periods, charges),
             balanced: self.balanced.price(charges),
         }
     }
@@ -112,10 +114,12 @@ pub(crate) fn print_lines<N: Network>(
     println!(rt;
         "line from   to    delay   rate class  room jitter  loss |    Rate      P0      P1      P2      P3 Balanced"
     )?;
+    // Stays: a network is asked for a line by its number, which is printed too; an iterator over lines would be one type more.
     for k in 0..network.line_count() {
         let line = network.line(k);
+        let prices = tariffs.prices(line.terms.charges);
         print_line(rt, k, line)?;
-        print_prices(rt, tariffs.prices(line.terms.charges))?;
+        println!(rt; "{prices}")?;
     }
     Ok(())
 }
@@ -132,14 +136,4 @@ fn print_line(rt: &impl Print, k: u32, line: Line) -> io::Result<()> {
     print!(rt;
         "{k:>4} {from:>4} {to:>4} {delay:>8} {rate:>6} {class:>5} {room:>5} {jitter:>6} {loss:>5} |"
     )
-}
-
-fn print_prices(rt: &impl Print, prices: Prices) -> io::Result<()> {
-    let Prices {
-        rate,
-        periods,
-        balanced,
-    } = prices;
-    let ByPeriod { p0, p1, p2, p3 } = periods;
-    println!(rt; "{rate:>8}{p0:>8}{p1:>8}{p2:>8}{p3:>8}{balanced:>9}")
 }

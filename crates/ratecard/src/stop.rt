@@ -2,29 +2,15 @@
 use network::Refusal;
 use std::alloc::AllocError;
 use std::io;
+use thiserror::Error;
 
 /// A refusal where none was wanted, or want of memory or of a place to print.
-#[derive(Debug, Drop)]
+#[derive(Debug, Drop, Error)]
 pub(crate) enum Stop {
-    Refused(Refusal),
-    NoMemory,
-    NoOutput(io::Error),
-}
-
-impl From<Refusal> for Stop {
-    fn from(refusal: Refusal) -> Stop {
-        Stop::Refused(refusal)
-    }
-}
-
-impl From<AllocError> for Stop {
-    fn from(_none: AllocError) -> Stop {
-        Stop::NoMemory
-    }
-}
-
-impl From<io::Error> for Stop {
-    fn from(error: io::Error) -> Stop {
-        Stop::NoOutput(error)
-    }
+    #[error("refused with number {}", .0.number())]
+    Refused(#[from] Refusal),
+    #[error("no memory")]
+    NoMemory(#[from(alloc)] AllocError),
+    #[error("no output: {0}")]
+    NoOutput(#[from] io::Error),
 }

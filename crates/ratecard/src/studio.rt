@@ -4,6 +4,7 @@ use network::{Charges, Draft, Line, Refusal, Ring, Terms};
 use std::alloc::Global;
 
 /// The lines of the studio network: from, to, delay, rate, class, room, jitter and loss of each.
+// Stays: a row of eight numbers for each line reads as a table, and six structs in structs would not.
 const LINES: [[u32; 8]; 6] = [
     [0, 1, 1200, 30, 0, 4, 3, 2],
     [1, 2, 800, 45, 2, 2, 5, 1],
@@ -41,16 +42,11 @@ pub(crate) fn extra_line() -> Line {
 /// The studio network of 4 points, as a draft.
 pub(crate) fn studio_draft(heap: Global) -> Result<Draft, Stop> {
     let mut draft = Draft::new(heap)?;
-    fill(&mut draft)?;
-    Ok(draft)
-}
-
-fn fill(draft: &mut Draft) -> Result<(), Refusal> {
     draft.set_points(4)?;
     for numbers in LINES {
         draft.add_line(line_of(numbers))?;
     }
-    Ok(())
+    Ok(draft)
 }
 
 /// A ring of 3 points, on terms with no room left.

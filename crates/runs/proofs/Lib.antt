@@ -1,1 +1,3 @@
-pub mod Filled
+pub mod Made
+pub mod Numbered
+pub mod Seen

@@ -39,6 +39,13 @@ closure_question net bytes = asks 16 (nat_le (length net.lines) bytes) ∷ []
 unfoldable pub open_marks : Graph → List Bool
 open_marks graph = map (λ k. (arc_at graph k).«open») (range_with_len 0 512)
 
+-- What holds of the arc at any number in a graph of n points.
+pub record Fit (n : ℕ) (a : Arc) : Type 0 where
+  pub from_below : a.from < n
+  pub to_below : a.to < n
+  pub delay_most : a.delay ≤ 1000000
+  pub room_most : a.room ≤ 1000
+
 -- What every graph of a network keeps. The last four hold past the last arc too, where every number is 0.
 pub record Sound (graph : Graph) : Type 0 where
   pub points_least : 2 ≤ graph.points

@@ -5,7 +5,7 @@ ghost use Rattle.runs.specs.Graphs.{no_arc, arc_of};
 use network::Line;
 
 /// What a search sees of a line.
-#[derive(Clone, Copy)]
+#[derive(Clone, Copy, Default)]
 pub struct Arc {
     pub from: u32,
     pub to: u32,
@@ -22,13 +22,7 @@ impl Arc {
     pub fn none() -> Arc
         ensures { result ≡ no_arc }
     {
-        Arc {
-            from: 0,
-            to: 0,
-            delay: 0,
-            room: 0,
-            open: false,
-        }
+        Arc::default()
     }
 
     /// The arc of a line with this closure byte, for `g` channels: open if the byte is 0 and the line has room for `g`.

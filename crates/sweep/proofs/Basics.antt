@@ -1,15 +1,10 @@
 -- Order and runs, and how many points are left.
-use Rattle.std.proofs.Common.{◌≡◌, ℕ, zero, suc, ◌+◌, ◌<◌, Bool, true, false, ◌⊎◌, List, [], ◌∷◌, ◌++◌, length, get_or, set, Some, None, Option, sym, refl, ◌∙◌, subst, inl, inr, ⊎_elim, add-zero, arith, below_more}
+use Rattle.std.proofs.Common.{◌≡◌, ℕ, zero, suc, ◌+◌, ◌<◌, Bool, true, false, List, [], ◌∷◌, ◌++◌, length, get_or, set, Some, None, Option, sym, refl, ◌∙◌, subst, ⊎_elim, add-zero, arith}
 use Rattle.std.proofs.lemmas.Bool.{cases_Bool, both_ways}
-use Rattle.std.proofs.lemmas.List.{get_or-set_same, get_or-set_other}
 use Rattle.runs.specs.declared.arc.Arc.{Arc}
 use Rattle.sweep.specs.Laws.{Ops, Laws, Ranged}
 use Rattle.runs.specs.Runs.{Run, value}
 use Rattle.sweep.specs.Front.{left}
-
-pub some_or_none : {V : Type 0} (o : Option V) → (o ≡ None) ⊎ ((x : V) × (o ≡ Some x))
-some_or_none None = inl refl
-some_or_none (Some x) = inr (x, refl)
 
 pub same_some : {V : Type 0} (o : Option V) (x y : V) → o ≡ Some x → o ≡ Some y → x ≡ y
 same_some o x y p q = cc
@@ -46,9 +41,3 @@ module _ {V : Type 0} {ops : Ops V} {fits : ℕ → V → Type 0} {clip : V → 
       let t = run_fits arc usable ranged ks (j + 1) (arc k).to v (ops.ext x (arc k)) (laws.fits_more j x (arc k) (ranged k r.0) f) r.2 in
       let e : (j + 1) + length ks ≡ j + suc (length ks) = omega arith in
       subst (λ (i : ℕ). fits i (value ops.ext arc (ops.ext x (arc k)) ks)) e t
-
--- what holds of each element below i, and of the one written at i, holds below i + 1
-pub held_more : {X : Type 0} (P : X → Type 0) (xs : List X) (i : ℕ) (x d : X) → i < length xs → ((k : ℕ) → k < i → P (get_or xs k d)) → P x → (k : ℕ) → k < i + 1 → P (get_or (set xs i x) k d)
-held_more {X} P xs i x d l below here = below_more (λ k. P (get_or (set xs i x) k d)) i
-    (λ k h. subst P (sym (get_or-set_other xs i k x d (λ e. omega arith))) (below k h))
-    (subst P (sym (get_or-set_same xs i x d l)) here)

@@ -27,6 +27,10 @@ module _ {V : Type 0} {ops : Ops V} {fits : ℕ → V → Type 0} {clip : V → 
     begun = f.begun;
   }
 
+  -- no arc from number k on may be used
+  pub skip_rest : (done : List Bool) (u k : ℕ) (x : V) (best : List (Option V)) (m : ℕ) → ((j : ℕ) → usable j → j < k) → Front ops arc usable n s done u k x best → Front ops arc usable n s done u m x best
+  skip_rest done u k x best m all f = record { made = f.made; low = f.low; high = f.high; closed = λ j y o d h e. f.closed j y o d (λ _. all j o) e; begun = f.begun }
+
   -- arc k leads from u, and its far point has a value that is no worse
   keep_step : (done : List Bool) (u k : ℕ) (x z : V) (best : List (Option V)) → (arc k).from ≡ u → get_or best u None ≡ Some x → get_or best (arc k).to None ≡ Some z → ops.le z (ops.ext x (arc k)) ≡ true → Front ops arc usable n s done u k x best → Front ops arc usable n s done u (k + 1) x best
   keep_step done u k x z best fu here at l f = record {

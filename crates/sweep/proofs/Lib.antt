@@ -1,4 +1,5 @@
 pub mod Basics
+pub mod Numbered
 pub mod Picks
 pub mod Fronts
 pub mod Turns

@@ -1,7 +1,7 @@
 -- The table of best values that is worked out in rounds: its values are those of runs, and no short run is better.
-use Rattle.std.proofs.Common.{◌≡◌, ℕ, zero, suc, ◌<◌, ◌≤◌, Bool, true, false, cond, ◌&&◌, eqb, List, [], ◌∷◌, ◌++◌, length, get_or, take, drop, Some, None, Option, sym, refl, ap, ◌∙◌, subst, ⊎_elim, le_of_suc-le-suc, not-suc-le-zero, arith}
+use Rattle.std.proofs.Common.{◌≡◌, ℕ, zero, suc, ◌<◌, ◌≤◌, Bool, true, false, cond, ◌&&◌, eqb, List, [], ◌∷◌, ◌++◌, length, get_or, Some, None, Option, sym, refl, ap, ◌∙◌, subst, ⊎_elim, le_of_suc-le-suc, not-suc-le-zero, arith}
 use Rattle.std.proofs.lemmas.List.FromFn.{get_or-map-range_with_len, length-map-range_with_len}
-use Rattle.std.proofs.lemmas.List.{get_or_past, get_or-take, length-take-le, take-append-drop, ext_get_or}
+use Rattle.std.proofs.lemmas.List.{get_or_past, ext_get_or}
 use Rattle.std.proofs.lemmas.Bool.{cases_lt, both_ways, and_parts, and_from, eqb-true, eq-eqb, cond-true, cond_both}
 use Rattle.runs.specs.declared.arc.Arc.{Arc}
 use Rattle.runs.specs.Graphs.{Graph, Sound, no_arc, arc_at}
@@ -178,13 +178,10 @@ module _ {V : Type 0} {ops : Ops V} {fits : ℕ → V → Type 0} {clip : V → 
           let yq : ops.le y q.0 ≡ true = subst (λ (t : V). ops.le y t ≡ true) p.2 (b.1 p.0 p.1) in
           ap Some (laws.antisym y q.0 yq qy) ∙ sym q.1
 
-      -- a table that is best at each point, by runs of at most 64 arcs, and otherwise as it was
-      pub same_table : s < graph.points → (now was : List (Option V)) → graph.points ≤ length now
+      -- a table that is best at each point, by runs of at most 64 arcs
+      pub same_table : s < graph.points → (now : List (Option V)) → length now ≡ graph.points
           → ((v : ℕ) → v < graph.points → BestAt ops (arc_at graph) (Allowed graph marks) s v (get_or now v None))
           → ((v : ℕ) → v < graph.points → (y : V) → get_or now v None ≡ Some y → Made ops (arc_at graph) (Allowed graph marks) s 0 v y)
-          → drop graph.points now ≡ drop graph.points was → now ≡ best_table ops graph marks s ++ drop graph.points was
-      same_table sn now was long best short rest =
-          let len = length-take-le graph.points now long in
-          let front = ext_get_or None (take graph.points now) (best_table ops graph marks s) (len ∙ sym (table_length ops graph marks s))
-          (λ v h. let lt : v < graph.points = omega arith in get_or-take graph.points now v None lt ∙ same_place sn v (get_or now v None) (best v lt) (short v lt)) in
-          sym (take-append-drop graph.points now) ∙ ap (λ (t : List (Option V)). t ++ drop graph.points now) front ∙ ap (λ (t : List (Option V)). best_table ops graph marks s ++ t) rest
+          → now ≡ best_table ops graph marks s
+      same_table sn now long best short = ext_get_or None now (best_table ops graph marks s) (long ∙ sym (table_length ops graph marks s))
+          (λ v h. let lt : v < graph.points = omega arith in same_place sn v (get_or now v None) (best v lt) (short v lt))

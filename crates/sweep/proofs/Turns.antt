@@ -1,36 +1,87 @@
 -- The turns of the loops, as the code takes them.
-use Rattle.std.proofs.Common.{◌≡◌, ℕ, zero, suc, ◌+◌, ◌<◌, false, List, length, get_or, drop, set, replicate, None, Option, sym, refl, ap, ◌∙◌, subst, zero-add, arith}
-use Rattle.std.proofs.lemmas.List.{drop-set-lt}
+use Rattle.std.proofs.Common.{◌≡◌, ℕ, zero, suc, ◌+◌, ◌<◌, ◌≤◌, Bool, true, false, ◌&&◌, eqb, List, length, get_or, set, replicate, Some, None, Option, Bor, sym, refl, ap, ◌∙◌, subst, ⊎_elim, zero-add, arith}
+use Rattle.std.proofs.iter.Yields.{fronts}
+use Rattle.std.proofs.lemmas.Bool.{both_ways, cases_lt, and_parts, and_from, eqb-true, eq-eqb}
+use Rattle.std.proofs.lemmas.Iterator.{zips}
+use Rattle.std.proofs.lemmas.List.{get_or_past}
+use Rattle.std.proofs.lemmas.Slice.Zip.{zip_turn, zip_end}
+use Rattle.std.specs.Iterator.{Yields}
+use Rattle.std.specs.Iterator.Adapters.{zip_first, zip_second}
+use Rattle.std.specs.Slice.Iter.{iter_rest}
+use Rattle.std.specs.declared.iter.Zip.{Zip}
+use Rattle.std.specs.declared.slice.Iter.{Iter}
 use Rattle.runs.specs.declared.arc.Arc.{Arc}
-use Rattle.sweep.specs.Laws.{Ops, Laws, Ranged}
+use Rattle.runs.specs.declared.arcs.Arcs.{Arcs}
+use Rattle.runs.specs.Graphs.{Graph, no_arc, arc_at}
+use Rattle.runs.specs.Held.{graph, sound}
 use Rattle.runs.specs.Runs.{value}
+use Rattle.sweep.specs.Best.{Allowed}
 use Rattle.sweep.specs.Front.{Keeps, Made, kept}
+use Rattle.sweep.specs.Laws.{Ops, Laws, Ranged}
 use Rattle.sweep.proofs.Basics.{run_fits}
-use Rattle.sweep.proofs.Fronts.{skip_step, offer_step}
+use Rattle.sweep.proofs.Fronts.{skip_step, skip_rest, offer_step}
 
--- what `relax` has done so far, from `before`
-abbrev pub Relaxed : {V : Type 0} → Ops V → (ℕ → Arc) → (ℕ → Type 0) → ℕ → ℕ → V → List (Option V) → ℕ → List (Option V) → Type 0
-Relaxed ops arc usable n u x before k after = Keeps ops arc usable n u x before k after × (drop n after ≡ drop n before)
+-- what the loop of `relax` reads in turn n
+pub record Turn (arcs : Graph) (marks : List Bool) (n : ℕ) (arc : Arc) (mark : Bool) : Type 0 where
+  pub within : n < length arcs.arcs
+  pub arc_is : arc ≡ arc_at arcs n
+  pub mark_is : get_or marks n false ≡ mark
+  pub to_below : arc.to < arcs.points
+  pub ranged : Ranged arc
 
-module _ {V : Type 0} {ops : Ops V} {fits : ℕ → V → Type 0} {clip : V → V} (laws : Laws ops fits clip) (arc : ℕ → Arc) (usable : ℕ → Type 0) (n u : ℕ) (x : V) (before : List (Option V)) (k : ℕ) (best best' : List (Option V)) (h : Relaxed ops arc usable n u x before k best) where
-  pub relax_skip : (usable k → (arc k).from ≡ u → ⊥) → best' ≡ best → Relaxed ops arc usable n u x before (k + 1) best'
-  relax_skip unused e = subst (Relaxed ops arc usable n u x before (k + 1)) (sym e)
-      (λ s done mark near f. let q = h.0 s done mark near f in (skip_step laws arc usable n s done u k x best unused q.0, q.1), h.1)
+-- a loop over the arcs of a table beside marks, which has yielded xs
+module _ (a : Arcs) (marks : List Bool) (xs : List (Bor Arc × Bor Bool)) (s t u : Zip (Iter Arc) (Iter Bool)) (r : Option (Bor Arc × Bor Bool)) {i : Iter Arc} {z : Zip (Iter Arc) (Iter Bool)}
+    (made : s ≡ z) (first : zip_first z ≡ i) (left : iter_rest i ≡ (graph a).arcs) (right : iter_rest (zip_second z) ≡ marks) (y : Yields (zips fronts fronts) s xs t) where
+  from_left : iter_rest (zip_first s) ≡ (graph a).arcs
+  from_left = ap (λ w. iter_rest (zip_first w)) made ∙ ap iter_rest first ∙ left
 
-  -- l is arc k as the code has read it
-  pub relax_offer : (l : Arc) (y : V) → l ≡ arc k → usable k → l.from ≡ u → l.to < n → l.to < length best → y ≡ ops.ext x l → best' ≡ set best l.to (kept ops.le (get_or best l.to None) y) → Relaxed ops arc usable n u x before (k + 1) best'
-  relax_offer l y le' o fu tn wl ye e =
-      let to_is : l.to ≡ (arc k).to = ap (λ (t : Arc). t.to) le' in
-      let y_is : y ≡ ops.ext x (arc k) = ye ∙ ap (ops.ext x) le' in
-      let P : ℕ → V → Type 0 = λ w z. best' ≡ set best w (kept ops.le (get_or best w None) z) in
-      let e₁ : P (arc k).to y = subst (λ (w : ℕ). P w y) to_is e in
-      let e₂ : P (arc k).to (ops.ext x (arc k)) = subst (λ (z : V). P (arc k).to z) y_is e₁ in
-      let wl' : (arc k).to < length best = subst (λ (w : ℕ). w < length best) to_is wl in
-      let tn' : (arc k).to < n = subst (λ (w : ℕ). w < n) to_is tn in
-      subst (Relaxed ops arc usable n u x before (k + 1)) (sym e₂) (
-        λ s done mark near f. offer_step laws arc usable n s done u k x best o (sym (ap (λ (t : Arc). t.from) le') ∙ fu) wl' mark near (h.0 s done mark near f),
-        drop-set-lt n best (arc k).to _ tn' ∙ h.1,
-      )
+  from_right : iter_rest (zip_second s) ≡ marks
+  from_right = ap (λ w. iter_rest (zip_second w)) made ∙ right
+
+  pub turn_of : (p : Bor Arc × Bor Bool) → r ≡ Some p → zips fronts fronts t r u → Turn (graph a) marks (length xs) p.0.now p.1.now
+  turn_of p e h =
+      let q = zip_turn (graph a).arcs marks xs s t u r from_left from_right y p e h in
+      let good = sound a in
+      let back = sym (q.2 no_arc) in record {
+        within = q.0;
+        arc_is = q.2 no_arc;
+        mark_is = sym (q.3 false);
+        to_below = subst (λ (x : Arc). x.to < a.points) back (good.to_below (length xs));
+        ranged = subst Ranged back (good.delay_most (length xs), good.room_most (length xs));
+      }
+
+  -- no arc that may be used is left
+  pub all_turned : r ≡ None → zips fronts fronts t r u → (j : ℕ) → Allowed (graph a) marks j → j < length xs
+  all_turned e h j o =
+      let end = zip_end (graph a).arcs marks xs s t u r from_left from_right y e h in
+      ⊎_elim
+      (λ (lt : j < length marks). omega (arith, o.0))
+      (λ (le : length marks ≤ j). absurd (both_ways (get_or marks j false) (get_or_past marks j false le) o.1))
+      (cases_lt j (length marks))
+
+module _ {V : Type 0} {ops : Ops V} {fits : ℕ → V → Type 0} {clip : V → V} (laws : Laws ops fits clip) (arcs : Graph) (marks : List Bool) (u : ℕ) (x : V) (before : List (Option V)) (n : ℕ) (best : List (Option V)) (h : Keeps ops (arc_at arcs) (Allowed arcs marks) arcs.points u x before n best) {arc : Arc} {mark : Bool} (t : Turn arcs marks n arc mark) (m : ℕ) (next : m ≡ n + 1) where
+  -- the arc is not allowed, or does not lead from u
+  pub relax_skip : (mark && eqb arc.from u) ≡ false → Keeps ops (arc_at arcs) (Allowed arcs marks) arcs.points u x before m best
+  relax_skip off = subst (λ (k : ℕ). Keeps ops (arc_at arcs) (Allowed arcs marks) arcs.points u x before k best) (sym next)
+      (λ s done near made f. let q = h s done near made f in (skip_step laws (arc_at arcs) (Allowed arcs marks) arcs.points s done u n x best unused q.0, q.1))
+    where
+      unused : Allowed arcs marks n → (arc_at arcs n).from ≡ u → ⊥
+      unused o e = both_ways (mark && eqb arc.from u) off (and_from mark (eqb arc.from u) (sym t.mark_is ∙ o.1) (eq-eqb arc.from u (ap (λ (a : Arc). a.from) t.arc_is ∙ e)))
+
+  -- the arc's value y is offered to its far point, which then holds o
+  pub relax_offer : (mark && eqb arc.from u) ≡ true → arc.to < length best → (y : V) (o : Option V) → y ≡ ops.ext x arc → o ≡ kept ops.le (get_or best arc.to None) y → Keeps ops (arc_at arcs) (Allowed arcs marks) arcs.points u x before m (set best arc.to o)
+  relax_offer on wl y o ye oe = subst (λ (k : ℕ). Keeps ops (arc_at arcs) (Allowed arcs marks) arcs.points u x before k (set best arc.to o)) (sym next)
+      (subst (λ (p : Option V). Keeps ops (arc_at arcs) (Allowed arcs marks) arcs.points u x before (n + 1) (set best arc.to p)) (sym (oe ∙ ap (kept ops.le (get_or best arc.to None)) ye))
+      (subst (λ (a : Arc). a.from ≡ u → a.to < length best → Keeps ops (arc_at arcs) (Allowed arcs marks) arcs.points u x before (n + 1) (set best a.to (kept ops.le (get_or best a.to None) (ops.ext x a)))) (sym t.arc_is)
+      (λ from to s done near made f. offer_step laws (arc_at arcs) (Allowed arcs marks) arcs.points s done u n x best (t.within, t.mark_is ∙ both.0) from to near made (h s done near made f)) (eqb-true arc.from u both.1) wl))
+    where
+      both : (mark ≡ true) × (eqb arc.from u ≡ true)
+      both = and_parts mark (eqb arc.from u) on
+
+-- work on all arcs that may be used is work on all arcs
+pub relax_end : {V : Type 0} {ops : Ops V} {fits : ℕ → V → Type 0} {clip : V → V} (laws : Laws ops fits clip) (arc : ℕ → Arc) (usable : ℕ → Type 0) (n u : ℕ) (x : V) (before : List (Option V)) (k : ℕ) (best : List (Option V))
+    → Keeps ops arc usable n u x before k best → (m : ℕ) → ((j : ℕ) → usable j → j < k) → Keeps ops arc usable n u x before m best
+relax_end laws arc usable n u x before k best h m all s done near made f = let q = h s done near made f in (skip_rest laws arc usable n s done u k x best m all q.0, q.1)
 
 -- the value of a run that is short enough may be extended
 pub made_fits : {V : Type 0} {ops : Ops V} {fits : ℕ → V → Type 0} {clip : V → V} (laws : Laws ops fits clip) (arc : ℕ → Arc) (usable : ℕ → Type 0) (s u more : ℕ) (x : V) → ((k : ℕ) → usable k → Ranged (arc k)) → Made ops arc usable s (more + 1) u x → (j : ℕ) × (j < 64) × fits j x

@@ -10,9 +10,9 @@ kept le None y = Some y
 kept le (Some z) y = cond (le z y) (Some z) (Some y)
 
 -- The point picked so far, or v with the value x where that is better.
-abbrev pub better : {V : Type 0} → (V → V → Bool) → Option (ℕ × V) → ℕ → V → Option (ℕ × V)
-better le None v x = Some (v, x)
-better le (Some p) v x = cond (le p.1 x) (Some p) (Some (v, x))
+abbrev pub better : {V : Type 0} → (V → V → Bool) → Option (ℕ × V) → ℕ → V → ℕ × V
+better le None v x = (v, x)
+better le (Some p) v x = cond (le p.1 x) p (v, x)
 
 -- Of the points below n that are not done, the one whose value is no worse than any other's.
 abbrev pub Picked : {V : Type 0} → (V → V → Bool) → ℕ → List Bool → List (Option V) → Option (ℕ × V) → Type 0

@@ -7,7 +7,7 @@ use crate::grading::Grading;
 use runs::Arc;
 
 /// By delay: the least sum of delays is best.
-pub struct Delay {}
+pub struct Delay;
 
 impl Grading for Delay {
     type Value = u32;

@@ -6,7 +6,7 @@ use crate::grading::Grading;
 use runs::Arc;
 
 /// By room: the largest room of the tightest line is best.
-pub struct Room {}
+pub struct Room;
 
 impl Grading for Room {
     type Value = u32;

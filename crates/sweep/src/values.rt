@@ -69,13 +69,14 @@ fn judge_ends<N: Network>(network: &N, s: u32, t: u32) -> Result<(), Refusal>
 fn judge_channels(g: u32) -> Result<(), Refusal>
     ensures { numbered result ≡ judged (channel_question g) tt }
 {
-    if g < 1 || g > 1000 {
+    if !(1..=1000).contains(&g) {
         return Err(Refusal::BadChannels);
     }
     Ok(())
 }
 
 /// The best value from s to t over lines open for g channels: 16, 17, and 20 if there is no run.
+// Stays: no other private function takes a network with its closures and channels, so a struct of them would be made and taken apart at once.
 fn reach<G: Grading, N: Network>(
     network: &N,
     closures: &[u8],
@@ -88,37 +89,17 @@ fn reach<G: Grading, N: Network>(
     requires end { t < (N.Network.net network.now).points }
     ensures answer { numbered result ≡ or_no_run (judged (place_questions (N.Network.net network.now) closures.now (length table.old)) (slice_index_or (open_table G.Grading.ops (N.Network.net network.now) closures.now g s) t None)) }
     ensures table { table.new ≡ table_after G.Grading.ops (place_questions (N.Network.net network.now) closures.now (length table.old)) (N.Network.net network.now) closures.now g s table.old }
+    ensures best { all_yes (place_questions (N.Network.net network.now) closures.now (length table.old)) ≡ true → (v : ℕ) → v < (N.Network.net network.now).points → BestAt G.Grading.ops (seen_at (N.Network.net network.now) closures.now g) (OpenLine (N.Network.net network.now) closures.now g) s v (slice_index_or table.new v None) }
     ensures says { all_yes (place_questions (N.Network.net network.now) closures.now (length table.old)) ≡ true → Says G.Grading.ops (N.Network.net network.now) closures.now g s t (numbered result) }
 {
-    fill::<G, N>(network, closures, s, g, table)?;
-    let value = table[t as usize];
-    found::<G>(value)
+    let arcs = Arcs::new(network, closures, g)?;
+    sweep::<G>(&arcs, &arcs.open_marks(), s, table)?;
+    found::<G>(table[t as usize])
 }
 
 /// The value found, or 20 where there is no run.
 fn found<G: Grading>(value: Option<G::Value>) -> Result<G::Value, Refusal>
     ensures { numbered result ≡ or_no_run (Ok value) }
 {
-    match value {
-        Some(x) => Ok(x),
-        None => Err(Refusal::NoRun),
-    }
-}
-
-/// Fills the table with the best values from s over lines open for g channels: 16, 17.
-fn fill<G: Grading, N: Network>(
-    network: &N,
-    closures: &[u8],
-    s: u32,
-    g: u32,
-    table: &mut [Option<G::Value>],
-) -> Result<(), Refusal>
-    requires { s < (N.Network.net network.now).points }
-    ensures answer { numbered result ≡ judged (place_questions (N.Network.net network.now) closures.now (length table.old)) tt }
-    ensures table { table.new ≡ table_after G.Grading.ops (place_questions (N.Network.net network.now) closures.now (length table.old)) (N.Network.net network.now) closures.now g s table.old }
-    ensures best { numbered result ≡ Ok tt → (v : ℕ) → v < (N.Network.net network.now).points → BestAt G.Grading.ops (seen_at (N.Network.net network.now) closures.now g) (OpenLine (N.Network.net network.now) closures.now g) s v (slice_index_or table.new v None) }
-{
-    let arcs = Arcs::new(network, closures, g)?;
-    let marks = arcs.open_marks();
-    sweep::<G>(&arcs, &marks, s, table)
+    value.ok_or(Refusal::NoRun)
 }

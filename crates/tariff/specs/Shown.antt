@@ -1,25 +1,14 @@
 -- Proofs, not definitions: the tariffs of this crate keep what every tariff keeps.
-use Rattle.std.specs.Prelude.{◌≡◌, ℕ, ◌*◌, ◌<◌, ◌≤◌, max, Bool, true, false, cond, ◌&&◌, ◌==◌, nat_le, refl}
+use Rattle.std.specs.Prelude.{◌≡◌, ℕ, ◌*◌, ◌<◌, ◌≤◌, List, All, length, get_or, max, Bool, true, false, cond, ◌&&◌, ◌==◌, refl}
 use Rattle.std.proofs.Common.{⊎_elim, sym, subst, mul-le-mul, arith}
-use Rattle.std.proofs.lemmas.Bool.{and_parts, cases_Bool, leb-true}
+use Rattle.std.proofs.lemmas.Bool.{cases_Bool}
+use Rattle.std.proofs.lemmas.List.Elements.{All-get_or}
 use Rattle.network.specs.declared.line.Charges.{Charges}
 use Rattle.network.specs.Net.{chargeable}
+use Rattle.network.specs.Shown.{Ranges, ranges}
 use Rattle.tariff.specs.Prices.{Priced, in_line, rate_price, balanced_price}
-use Rattle.tariff.specs.Weights.{Weights, weight_at, freed, settled, period_price}
-
--- Charges in a line's ranges.
-record Ranges (c : Charges) : Type 0 where
-  rate_most : c.rate ≤ 10000
-  class_most : c.class ≤ 7
-  jitter_most : c.jitter ≤ 1000
-  loss_most : c.loss ≤ 1000
-
-ranges : (c : Charges) → chargeable c ≡ true → Ranges c
-ranges c h =
-    let u = and_parts (nat_le c.rate 10000) (nat_le c.class 7 && (nat_le c.jitter 1000 && nat_le c.loss 1000)) h in
-    let v = and_parts (nat_le c.class 7) (nat_le c.jitter 1000 && nat_le c.loss 1000) u.1 in
-    let w = and_parts (nat_le c.jitter 1000) (nat_le c.loss 1000) v.1 in
-    record { rate_most = leb-true _ _ u.0; class_most = leb-true _ _ v.0; jitter_most = leb-true _ _ w.0; loss_most = leb-true _ _ w.1 }
+use Rattle.tariff.specs.declared.period.row.Row.{Row}
+use Rattle.tariff.specs.Weights.{Weights, no_row, weight_at, freed, settled, period_price}
 
 -- A price that is bounded for charges in range makes a tariff.
 priced_from : (price : Charges → ℕ) → ((c : Charges) → Ranges c → price c ≤ 1000000) → Priced (λ c. in_line c (price c))
@@ -54,6 +43,13 @@ settled_most : (period class x : ℕ) → x ≤ 1000000 → settled period class
 settled_most period class x h =
     let f : freed class x ≤ 1000000 = cond_most (class == 7) 0 x (omega arith) h in
     cond_most (period == 3 && freed class x == 0) 1 (freed class x) (omega arith) f
+
+-- What holds of each weight of four rows of eight holds of the weight of each period and class.
+pub weight_has : (P : ℕ → Type 0) (rows : List Row) → length rows ≡ 4 → All (λ (r : Row). length r.weights ≡ 8) rows → All (λ (r : Row). All P r.weights) rows → (p c : ℕ) → p < 4 → c < 8 → P (weight_at rows p c)
+weight_has P rows four eight h p c pl cl =
+    let at : p < length rows = omega (arith, four) in
+    let long : length (get_or rows p no_row).weights ≡ 8 = All-get_or (λ (r : Row). length r.weights ≡ 8) rows p no_row at eight in
+    All-get_or P (get_or rows p no_row).weights c 0 (omega (arith, long)) (All-get_or (λ (r : Row). All P r.weights) rows p no_row at h)
 
 pub period_priced : (w : Weights) → w.period ≤ 3 → ((p c : ℕ) → p < 4 → c < 8 → weight_at w.rows p c ≤ 100) → Priced (period_price w)
 period_priced w p h =

@@ -24,7 +24,7 @@ impl Balanced {
     pub fn new(jitter_bound: u32, loss_bound: u32) -> Result<Balanced, Refusal>
         ensures { with_value (λ t. (t.jitter_bound, t.loss_bound)) (numbered result) ≡ bounds_taken jitter_bound loss_bound }
     {
-        if jitter_bound < 1 || jitter_bound > 1_000 || loss_bound < 1 || loss_bound > 1_000 {
+        if !(1..=1_000).contains(&jitter_bound) || !(1..=1_000).contains(&loss_bound) {
             return Err(Refusal::BadBound);
         }
         Ok(Balanced {

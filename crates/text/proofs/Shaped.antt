@@ -1,5 +1,5 @@
 -- A text that is read is a list, written out.
-use Rattle.std.proofs.Common.{◌≡◌, ℕ, zero, suc, ◌<◌, ◌≤◌, Bool, true, false, cond, eqb, leb, List, [], ◌∷◌, ◌++◌, map, length, get_or, is_ok, Ok, Err, Result, sym, refl, ap, ◌∙◌, subst, append_assoc, append-nil, arith}
+use Rattle.std.proofs.Common.{◌≡◌, ℕ, zero, suc, ◌<◌, ◌≤◌, Bool, true, false, cond, eqb, leb, List, [], ◌∷◌, ◌++◌, map, length, get_or, is_ok, Option, Some, None, Ok, Err, Result, sym, refl, ap, ◌∙◌, subst, append_assoc, append-nil, arith}
 use Rattle.std.proofs.lemmas.List.{length-append, length-map}
 use Rattle.std.proofs.lemmas.Bool.{eqb-true, both_ways}
 use Rattle.network.specs.declared.line.Line.{Line as NetLine}
@@ -7,10 +7,10 @@ use Rattle.network.specs.Net.{Net}
 use Rattle.network.specs.Refusals.{answered, left_by}
 use Rattle.text.specs.declared.fault.TextFault.{TextFault}
 use Rattle.text.specs.declared.token.Kind.{Kind}
-use Rattle.text.specs.declared.token.Kind.TheVariants.{Between, Word, Number, Open, Close, Newline, Bad}
+use Rattle.text.specs.declared.token.Kind.TheVariants.{Word, Number, Open, Close, Newline, Bad}
 use Rattle.text.specs.declared.words.Name.{Name}
-use Rattle.text.specs.declared.words.Name.TheVariants.{Points, Line, End, Delay, Rate, Class, Room, Jitter, Loss, Fastest, Widest, Other}
-use Rattle.text.specs.Names.{name_of, ordinal}
+use Rattle.text.specs.declared.words.Name.TheVariants.{Points, Line, End, Delay, Rate, Class, Room, Jitter, Loss, Fastest, Widest}
+use Rattle.text.specs.Names.{name_of, ordinal, is_name}
 use Rattle.text.specs.Items.{Item, is_word, is_number, items}
 use Rattle.text.specs.Grammar.{Slot, Seen, Out, read, fault, mark, word, form, number, points, tip, done, nothing, code, is, value_of, good_byte, fits, unless, fails, noted, begun, pointed, lined, line_from, after, field, line_slots, next, list_slots, or_else, run, answer}
 use Rattle.text.specs.Listing.{Fault, faulted, start, outcome, reading}
@@ -20,12 +20,11 @@ use Rattle.text.proofs.Scans.{word_is, number_is}
 
 -- the kind of a number
 kind_at : ℕ → Kind
-kind_at n = get_or (Between ∷ Word ∷ Number ∷ Open ∷ Close ∷ Newline ∷ Bad ∷ []) n Bad
+kind_at n = get_or (Word ∷ Number ∷ Open ∷ Close ∷ Newline ∷ Bad ∷ []) n Bad
 
 -- it is the one that the number is of
 kind_back : (k : Kind) → kind_at (code k) ≡ k
 unfolding kind_at
-kind_back Between = refl
 kind_back Word = refl
 kind_back Number = refl
 kind_back Open = refl
@@ -39,7 +38,7 @@ code_is j k e = sym (kind_back j) ∙ ap kind_at (eqb-true (code j) (code k) e) 
 
 -- the name of a number
 name_at : ℕ → Name
-name_at n = get_or (Points ∷ Line ∷ End ∷ Delay ∷ Rate ∷ Class ∷ Room ∷ Jitter ∷ Loss ∷ Fastest ∷ Widest ∷ Other ∷ []) n Other
+name_at n = get_or (Points ∷ Line ∷ End ∷ Delay ∷ Rate ∷ Class ∷ Room ∷ Jitter ∷ Loss ∷ Fastest ∷ Widest ∷ []) n Points
 
 -- it is the one that the number is of
 name_back : (x : Name) → name_at (ordinal x) ≡ x
@@ -55,21 +54,25 @@ name_back Jitter = refl
 name_back Loss = refl
 name_back Fastest = refl
 name_back Widest = refl
-name_back Other = refl
 
 -- names are told apart by their numbers
 ordinal_is : (x y : Name) → eqb (ordinal x) (ordinal y) ≡ true → x ≡ y
 ordinal_is x y e = sym (name_back x) ∙ ap name_at (eqb-true (ordinal x) (ordinal y) e) ∙ name_back y
 
+-- what a word is called that is the word x
+named_is : (x : Name) (o : Option Name) → is_name x o ≡ true → o ≡ Some x
+named_is x None e = cc
+named_is x (Some y) e = ap Some (ordinal_is y x e)
+
 -- a fault is no answer
 no_read : (q p : ℕ) (e : Seen) → fault q p ≡ read e → ⊥
-no_read q p e h = let z : ◌≡◌ {A = ℕ} 0 1 = cc in omega arith
+no_read q p e h = cc
 
 -- a token that fails no question fits
 fit_from : (a b : Bool) (qs : List ℕ) → unless a 2 (unless b 3 qs) ≡ [] → b ≡ true
 fit_from true true qs e = refl
-fit_from true false qs e = absurd (let z : ◌≡◌ {A = ℕ} 0 1 = cc in omega arith)
-fit_from false b qs e = absurd (let z : ◌≡◌ {A = ℕ} 0 1 = cc in omega arith)
+fit_from true false qs e = cc
+fit_from false b qs e = cc
 
 -- a pass that reads on past a token found no fault at it
 passed : (qs : List ℕ) (p : ℕ) (o : Out) (e : Seen) → or_else qs p o ≡ read e → (qs ≡ []) × (o ≡ read e)
@@ -91,8 +94,8 @@ mark_shape : (k : Kind) (t : Item) (s : Shape) → ((w : List ℕ) → shaped k 
 mark_shape k t s f e = ap (λ (j : Kind). shaped j t.bytes) (code_is t.kind k e) ∙ f t.bytes
 
 -- the same for a word
-word_shape : (x : Name) (t : Item) → is_word t.kind ≡ true → is x t ≡ true → shape_of t ≡ a_word x
-word_shape x t k e = ap (λ (j : Kind). shaped j t.bytes) (word_is t.kind k) ∙ ap a_word (ordinal_is (name_of t.bytes) x e)
+word_shape : (x : Name) (t : Item) → is_word t.kind ≡ true → is x t ≡ true → shape_of t ≡ a_word (Some x)
+word_shape x t k e = ap (λ (j : Kind). shaped j t.bytes) (word_is t.kind k) ∙ ap a_word (named_is x (name_of t.bytes) e)
 
 -- the same for a number
 number_shape : (t : Item) → is_number t.kind ≡ true → shape_of t ≡ a_number (value_of t.bytes)
@@ -107,8 +110,8 @@ marked : {G : Type 0} (k : Kind) (s : Shape) (f : (w : List ℕ) → shaped k w 
 marked k s f c n ss ts e h g = peel c n (mark k) ss ts e h (λ t us m a o. g us (headed (shape_of t) s _ _ m (mark_shape k t s f a)) o)
 
 -- a word
-worded : {G : Type 0} (w : Name) (c : Seen) (n : ℕ) (ss : List Slot) (ts : List Item) (e : Seen) → run c n (word w ∷ ss) ts ≡ read e → ((us : List Item) → map shape_of ts ≡ a_word w ∷ map shape_of us → run c n ss us ≡ read e → G) → G
-worded w c n ss ts e h g = peel c n (word w) ss ts e h (λ t us m a o. let b = both_true (is_word t.kind) (is w t) a in g us (headed (shape_of t) (a_word w) _ _ m (word_shape w t b.0 b.1)) o)
+worded : {G : Type 0} (w : Name) (c : Seen) (n : ℕ) (ss : List Slot) (ts : List Item) (e : Seen) → run c n (word w ∷ ss) ts ≡ read e → ((us : List Item) → map shape_of ts ≡ a_word (Some w) ∷ map shape_of us → run c n ss us ≡ read e → G) → G
+worded w c n ss ts e h g = peel c n (word w) ss ts e h (λ t us m a o. let b = both_true (is_word t.kind) (is w t) a in g us (headed (shape_of t) (a_word (Some w)) _ _ m (word_shape w t b.0 b.1)) o)
 
 -- a number in a range
 numbered : {G : Type 0} (lo hi : ℕ) (c : Seen) (n : ℕ) (ss : List Slot) (ts : List Item) (e : Seen) → run c n (number lo hi ∷ ss) ts ≡ read e → ((v : ℕ) (us : List Item) → map shape_of ts ≡ a_number v ∷ map shape_of us → run (noted c v) n ss us ≡ read e → G) → G
@@ -133,18 +136,18 @@ parted w lo hi c n ss ts e h g =
     worded w c n (number lo hi ∷ mark Close ∷ ss) us₁ e h₁ (λ us₂ m₂ h₂.
     numbered lo hi c n (mark Close ∷ ss) us₂ e h₂ (λ v us₃ m₃ h₃.
     marked Close (a_mark Close) (λ _. refl) (noted c v) n ss us₃ e h₃ (λ us₄ m₄ h₄.
-    g v us₄ (m₁ ∙ ap (λ xs. a_mark Open ∷ xs) (m₂ ∙ ap (λ xs. a_word w ∷ xs) (m₃ ∙ ap (λ xs. a_number v ∷ xs) m₄))) h₄))))
+    g v us₄ (m₁ ∙ ap (λ xs. a_mark Open ∷ xs) (m₂ ∙ ap (λ xs. a_word (Some w) ∷ xs) (m₃ ∙ ap (λ xs. a_number v ∷ xs) m₄))) h₄))))
 
 -- the word line or end
-formed : {G : Type 0} (c : Seen) (n : ℕ) (ts : List Item) (e : Seen) → run c n (form ∷ []) ts ≡ read e → ((us : List Item) → map shape_of ts ≡ a_word Line ∷ map shape_of us → run (begun c c.verb) n (line_slots (mark Open ∷ form ∷ [])) us ≡ read e → G) → ((us : List Item) → map shape_of ts ≡ a_word End ∷ map shape_of us → run (begun c c.verb) n (mark Close ∷ mark Newline ∷ []) us ≡ read e → G) → G
+formed : {G : Type 0} (c : Seen) (n : ℕ) (ts : List Item) (e : Seen) → run c n (form ∷ []) ts ≡ read e → ((us : List Item) → map shape_of ts ≡ a_word (Some Line) ∷ map shape_of us → run (begun c c.verb) n (line_slots (mark Open ∷ form ∷ [])) us ≡ read e → G) → ((us : List Item) → map shape_of ts ≡ a_word (Some End) ∷ map shape_of us → run (begun c c.verb) n (mark Close ∷ mark Newline ∷ []) us ≡ read e → G) → G
 formed {G} c n ts e h g k =
     peel c n form [] ts e h (λ t us m a o.
     let b = both_true (is_word t.kind) (cond (is Line t) true (is End t)) a in
     either t us (is Line t) refl m b.0 b.1 o)
   where
     either : (t : Item) (us : List Item) (v : Bool) → is Line t ≡ v → map shape_of ts ≡ shape_of t ∷ map shape_of us → is_word t.kind ≡ true → cond v true (is End t) ≡ true → run (begun c c.verb) n (cond v (line_slots (mark Open ∷ form ∷ [])) (mark Close ∷ mark Newline ∷ [])) us ≡ read e → G
-    either t us true l m a b o = g us (headed (shape_of t) (a_word Line) _ _ m (word_shape Line t a l)) o
-    either t us false l m a b o = k us (headed (shape_of t) (a_word End) _ _ m (word_shape End t a b)) o
+    either t us true l m a b o = g us (headed (shape_of t) (a_word (Some Line)) _ _ m (word_shape Line t a l)) o
+    either t us false l m a b o = k us (headed (shape_of t) (a_word (Some End)) _ _ m (word_shape End t a b)) o
 
 -- a line from its ends on
 figured : {G : Type 0} (c : Seen) (n : ℕ) (ss : List Slot) (ts : List Item) (e : Seen) → run (begun c c.verb) n (line_slots ss) ts ≡ read e → ((l : NetLine) (d : Seen) (us : List Item) → map shape_of ts ≡ figures_shapes l ++ map shape_of us → d.net.points ≡ c.net.points → d.net.lines ≡ c.net.lines ++ l ∷ [] → run d n ss us ≡ read e → G) → G
@@ -191,14 +194,14 @@ lines_read (suc m) c n ts e l h =
     formed c n us₁ e h₁
     (λ us₂ m₂ h₂.
     figured c n (mark Open ∷ form ∷ []) us₂ e h₂ (λ x d us m₃ p q h₃.
-    let all : map shape_of ts ≡ line_shapes x ++ map shape_of us = m₁ ∙ ap (λ xs. a_mark Open ∷ xs) (m₂ ∙ ap (λ xs. a_word Line ∷ xs) m₃) in
+    let all : map shape_of ts ≡ line_shapes x ++ map shape_of us = m₁ ∙ ap (λ xs. a_mark Open ∷ xs) (m₂ ∙ ap (λ xs. a_word (Some Line) ∷ xs) m₃) in
     more x d us all p q (lines_read m d n us e (fewer_left m (line_shapes x) ts us (omega arith) l all) h₃)))
     (λ us₂ m₂ h₂.
     marked Close (a_mark Close) (λ _. refl) (begun c c.verb) n (mark Newline ∷ []) us₂ e h₂ (λ us₃ m₃ h₃.
     marked Newline (a_mark Newline) (λ _. refl) (begun c c.verb) n [] us₃ e h₃ (λ us₄ m₄ h₄.
     let z = ended (begun c c.verb) n us₄ e h₄ in (
       [],
-      m₁ ∙ ap (λ xs. a_mark Open ∷ xs) (m₂ ∙ ap (λ xs. a_word End ∷ xs) (m₃ ∙ ap (λ xs. a_mark Close ∷ xs) (m₄ ∙ ap (λ xs. a_mark Newline ∷ xs) z.0))),
+      m₁ ∙ ap (λ xs. a_mark Open ∷ xs) (m₂ ∙ ap (λ xs. a_word (Some End) ∷ xs) (m₃ ∙ ap (λ xs. a_mark Close ∷ xs) (m₄ ∙ ap (λ xs. a_mark Newline ∷ xs) z.0))),
       sym (ap (λ (x : Seen). x.net.points) z.1),
       sym (ap (λ (x : Seen). x.net.lines) z.1) ∙ sym (append-nil c.net.lines),
     )))))
@@ -214,15 +217,15 @@ list_read d n ts e h =
     counted (start d) n _ us₂ e h₂ (λ v us₃ m₃ h₃.
     marked Close (a_mark Close) (λ _. refl) (pointed (start d) v) n _ us₃ e h₃ (λ us₄ m₄ h₄.
     marked Newline (a_mark Newline) (λ _. refl) (pointed (start d) v) n _ us₄ e h₄ (λ us₅ m₅ h₅.
-    all v us₅ (m₁ ∙ ap (λ xs. a_mark Open ∷ xs) (m₂ ∙ ap (λ xs. a_word Points ∷ xs) (m₃ ∙ ap (λ xs. a_number v ∷ xs) (m₄ ∙ ap (λ xs. a_mark Close ∷ xs) m₅)))) (lines_read (length us₅) (pointed (start d) v) n us₅ e (omega arith) h₅))))))
+    all v us₅ (m₁ ∙ ap (λ xs. a_mark Open ∷ xs) (m₂ ∙ ap (λ xs. a_word (Some Points) ∷ xs) (m₃ ∙ ap (λ xs. a_number v ∷ xs) (m₄ ∙ ap (λ xs. a_mark Close ∷ xs) m₅)))) (lines_read (length us₅) (pointed (start d) v) n us₅ e (omega arith) h₅))))))
   where
-    all : (v : ℕ) (us : List Item) → map shape_of ts ≡ a_mark Open ∷ a_word Points ∷ a_number v ∷ a_mark Close ∷ a_mark Newline ∷ map shape_of us → Lined (pointed (start d) v) us e → (ls : List NetLine) × (map shape_of ts ≡ list_shapes e.net.points ls) × (e.net.lines ≡ d.lines ++ ls)
-    all v us m r = (r.0, m ∙ ap (λ xs. a_mark Open ∷ a_word Points ∷ a_number v ∷ a_mark Close ∷ a_mark Newline ∷ xs) r.1 ∙ ap (λ k. list_shapes k r.0) (sym r.2), r.3)
+    all : (v : ℕ) (us : List Item) → map shape_of ts ≡ a_mark Open ∷ a_word (Some Points) ∷ a_number v ∷ a_mark Close ∷ a_mark Newline ∷ map shape_of us → Lined (pointed (start d) v) us e → (ls : List NetLine) × (map shape_of ts ≡ list_shapes e.net.points ls) × (e.net.lines ≡ d.lines ++ ls)
+    all v us m r = (r.0, m ∙ ap (λ xs. a_mark Open ∷ a_word (Some Points) ∷ a_number v ∷ a_mark Close ∷ a_mark Newline ∷ xs) r.1 ∙ ap (λ k. list_shapes k r.0) (sym r.2), r.3)
 
 -- what a pass that ends with a network read
 from_out : (o : Out) (net : Net) → outcome o ≡ Ok net → (e : Seen) × (o ≡ read e) × (e.net ≡ net)
 from_out (read c) net h = (c, refl, cc)
-from_out (fault q p) net h = absurd (let z : ◌≡◌ {A = ℕ} 0 1 = cc in omega arith)
+from_out (fault q p) net h = cc
 
 -- a text that is not too long
 from_size : (b : Bool) (o : Out) (e : Seen) → cond b o (fault 1 65536) ≡ read e → o ≡ read e
@@ -241,5 +244,5 @@ listed d left text (Ok v) a b i = by (reading d text) refl a b
   where
     by : (x : Result Net Fault) → reading d text ≡ x → faulted (Ok v) ≡ answered x → left ≡ left_by d x → Listed d text left
     by (Ok net) e a b = subst (Listed d text) (sym b) (text_read d net text e)
-    by (Err f) e a b = absurd (let z : ◌≡◌ {A = ℕ} 0 1 = cc in omega arith)
-listed d left text (Err f) a b i = absurd (both_ways false refl i)
+    by (Err f) e a b = cc
+listed d left text (Err f) a b i = cc

@@ -10,24 +10,18 @@ use Rattle.text.specs.declared.fault.CharFault.{CharFault}
 use Rattle.text.specs.declared.fault.FormFault.TheVariants.{Chars, Form}
 use Rattle.text.specs.declared.fault.TextFault.{TextFault}
 use Rattle.text.specs.declared.fault.TextFault.TheVariants.{Forms, List as InList}
-use Rattle.text.specs.declared.lexer.Lexer.{Lexer}
-use Rattle.text.specs.declared.token.Kind.TheVariants.{Between}
-use Rattle.text.specs.Items.{rest, items}
+use Rattle.text.specs.Items.{items}
+use Rattle.text.specs.Left.{left_of}
 use Rattle.text.specs.Grammar.{Slot, Seen, Out, read, fault, run, answer, list_slots}
 use Rattle.text.specs.Faults.{char_number, text_out}
 use Rattle.text.specs.Listing.{Fault, fault_of, faulted, start, outcome, reading}
-use Rattle.text.specs.Reads.{size, pass, Grown, Whole}
+use Rattle.text.specs.Reads.{pass, Grown, Whole}
 use Rattle.text.specs.Rule.{Decides, Earliest, text_faults}
-use Rattle.text.specs.ToCome.{to_come}
 use Rattle.text.proofs.Order.{Settles, settles}
-use Rattle.text.proofs.Same.{all_items}
 
 -- a reader at the start of a text that is not too long passes over what the text answers
-pub from_start : (c : Seen) (ss : List Slot) (text : List ℕ) (l : Lexer) → length text ≤ 65536 → to_come l ≡ rest Between 0 0 text → size l ≡ length text → answer c ss text ≡ pass c ss l
-from_start c ss text l h e s =
-    ap (λ b. cond b (run c (length text) ss (items 0 text)) (fault 1 65536)) (le-leb (length text) 65536 h)
-    ∙ ap (λ ts. run c (length text) ss ts) (sym (e ∙ all_items text))
-    ∙ ap (λ n. run c n ss (to_come l)) (sym s)
+pub from_start : (c : Seen) (ss : List Slot) (text : List ℕ) → length text ≤ 65536 → answer c ss text ≡ pass c ss (left_of text)
+from_start c ss text h = ap (λ b. cond b (pass c ss (left_of text)) (fault 1 65536)) (le-leb (length text) 65536 h)
 
 -- a text that is too long
 pub too_long : (c : Seen) (ss : List Slot) (text : List ℕ) → 65536 < length text → answer c ss text ≡ fault 1 65536
@@ -57,16 +51,16 @@ pub grown_take : (was is : Net) → Grown was is → take (length was.lines) is.
 grown_take was is g = ap (λ ls. take (length was.lines) ls) g.1 ∙ take_at was.lines g.0 _ refl
 
 -- what the list reader did, as what the text answers
-pub told_ok : (d is : Net) (text : List ℕ) (l : Lexer) (v : Unit {0}) → length text ≤ 65536 → to_come l ≡ rest Between 0 0 text → size l ≡ length text → Whole d is l (Ok v) → reading d text ≡ Ok is
-told_ok d is text l v h e s w = let q = w (start d) refl in read_net d is text q.0 (from_start (start d) list_slots text l h e s ∙ q.1) q.2
+pub told_ok : (d is : Net) (text : List ℕ) (v : Unit {0}) → length text ≤ 65536 → Whole d is (left_of text) (Ok v) → reading d text ≡ Ok is
+told_ok d is text v h w = let q = w (start d) refl in read_net d is text q.0 (from_start (start d) list_slots text h ∙ q.1) q.2
 
-pub told_err : (d is : Net) (text : List ℕ) (l : Lexer) (f : TextFault) → length text ≤ 65536 → to_come l ≡ rest Between 0 0 text → size l ≡ length text → Whole d is l (Err f) → reading d text ≡ Err (fault_of f)
-told_err d is text l f h e s w = read_fault d text f (from_start (start d) list_slots text l h e s ∙ w (start d) refl)
+pub told_err : (d is : Net) (text : List ℕ) (f : TextFault) → length text ≤ 65536 → Whole d is (left_of text) (Err f) → reading d text ≡ Err (fault_of f)
+told_err d is text f h w = read_fault d text f (from_start (start d) list_slots text h ∙ w (start d) refl)
 
 -- the same of either, where `left` is what the draft holds at the end: what it held where there was a fault, else what was read
-pub told : (d is left : Net) (text : List ℕ) (l : Lexer) (r : Result (Unit {0}) TextFault) → length text ≤ 65536 → to_come l ≡ rest Between 0 0 text → size l ≡ length text → Whole d is l r → left ≡ cond (is_err r) d is → (faulted r ≡ answered (reading d text)) × (left ≡ left_by d (reading d text))
-told d is left text l (Ok v) h e s w k = let q = told_ok d is text l v h e s w in (sym (ap answered q), k ∙ sym (ap (left_by d) q))
-told d is left text l (Err f) h e s w k = let q = told_err d is text l f h e s w in (sym (ap answered q), k ∙ sym (ap (left_by d) q))
+pub told : (d is left : Net) (text : List ℕ) (r : Result (Unit {0}) TextFault) → length text ≤ 65536 → Whole d is (left_of text) r → left ≡ cond (is_err r) d is → (faulted r ≡ answered (reading d text)) × (left ≡ left_by d (reading d text))
+told d is left text (Ok v) h w k = let q = told_ok d is text v h w in (sym (ap answered q), k ∙ sym (ap (left_by d) q))
+told d is left text (Err f) h w k = let q = told_err d is text f h w in (sym (ap answered q), k ∙ sym (ap (left_by d) q))
 
 -- a text that is too long is answered, and the draft is left
 pub told_long : (d : Net) (text : List ℕ) (f : CharFault) (r : Result (Unit {0}) TextFault) → r ≡ Err (Forms (Chars f)) → 65536 < length text → f.cause ≡ TooLong → f.place ≡ 65536 → (faulted r ≡ answered (reading d text)) × (d ≡ left_by d (reading d text))

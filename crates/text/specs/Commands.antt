@@ -1,15 +1,15 @@
 -- What the reading of a command text answers.
-use Rattle.std.specs.Prelude.{◌≡◌, ℕ, cond, List, [], ◌∷◌, Ok, Err, Result, ◌==◌, slice_index}
+use Rattle.std.specs.Prelude.{◌≡◌, ℕ, cond, List, [], ◌∷◌, Option, Ok, Err, Result, MatchResult, slice_index}
 use Rattle.network.specs.Drafts.{new_draft}
 use Rattle.text.specs.declared.commands.Command.{Command}
 use Rattle.text.specs.declared.commands.Command.TheVariants.{Fastest as fastest, Widest as widest}
 use Rattle.text.specs.declared.fault.FormFault.{FormFault}
-use Rattle.text.specs.declared.lexer.Lexer.{Lexer}
 use Rattle.text.specs.declared.words.Name.{Name}
 use Rattle.text.specs.declared.words.Name.TheVariants.{Fastest, Widest}
-use Rattle.text.specs.Names.{ordinal}
+use Rattle.text.specs.Names.{is_name}
 use Rattle.text.specs.Faults.{form_out}
 use Rattle.text.specs.Grammar.{Slot, Seen, Out, read, fault, answer, noted, command, command_slots}
+use Rattle.text.specs.Left.{Left}
 use Rattle.text.specs.Listing.{Fault, start}
 use Rattle.text.specs.Reads.{pass}
 
@@ -24,8 +24,8 @@ verb_of (fastest from to room) = Fastest
 verb_of (widest from to) = Widest
 
 -- The command that a word and its numbers make.
-abbrev pub command_from : Name → List ℕ → Command
-command_from w xs = cond (ordinal w == ordinal Fastest) (fastest (slice_index xs 0) (slice_index xs 1) (slice_index xs 2)) (widest (slice_index xs 0) (slice_index xs 1))
+abbrev pub command_from : Option Name → List ℕ → Command
+command_from w xs = cond (is_name Fastest w) (fastest (slice_index xs 0) (slice_index xs 1) (slice_index xs 2)) (widest (slice_index xs 0) (slice_index xs 1))
 
 -- What a pass over a command ends with: the command, or a fault.
 abbrev pub ordered : Out → Result Command Fault
@@ -42,16 +42,22 @@ noted_all c [] = c
 noted_all c (x ∷ xs) = noted_all (noted c x) xs
 
 -- The slots of a command were filled: its numbers were got.
-abbrev pub Ordered : (List Slot → List Slot) → Lexer → Result Command FormFault → Lexer → Type 0
-Ordered front l (Ok x) l' = (c : Seen) (ss : List Slot) → pass c (front ss) l ≡ pass (noted_all c (numbers x)) ss l'
-Ordered front l (Err f) l' = (c : Seen) (ss : List Slot) → pass c (front ss) l ≡ form_out f
+pub record Ordered (front : List Slot → List Slot) (was : Left) (r : Result Command FormFault) (is : Left) : Type 0 where
+  pub same : is.size ≡ was.size
+  pub reads :
+      MatchResult r
+      (λ x. (c : Seen) (ss : List Slot) → pass c (front ss) was ≡ pass (noted_all c (numbers x)) ss is)
+      (λ f. (c : Seen) (ss : List Slot) → pass c (front ss) was ≡ form_out f)
 
 -- A command from its word on: what is got then makes it again.
-abbrev pub Spoken : Lexer → Result Command FormFault → Lexer → Type 0
-Spoken l (Ok x) l' = (c : Seen) (ss : List Slot) → (e : Seen) × (pass c (command ∷ ss) l ≡ pass e ss l') × (command_from e.verb e.got ≡ x)
-Spoken l (Err f) l' = (c : Seen) (ss : List Slot) → pass c (command ∷ ss) l ≡ form_out f
+pub record Spoken (was : Left) (r : Result Command FormFault) (is : Left) : Type 0 where
+  pub same : is.size ≡ was.size
+  pub reads :
+      MatchResult r
+      (λ x. (c : Seen) (ss : List Slot) → (e : Seen) × (pass c (command ∷ ss) was ≡ pass e ss is) × (command_from e.verb e.got ≡ x))
+      (λ f. (c : Seen) (ss : List Slot) → pass c (command ∷ ss) was ≡ form_out f)
 
 -- A whole command text.
-abbrev pub Whole : Lexer → Result Command FormFault → Type 0
-Whole l (Ok x) = (c : Seen) → (e : Seen) × (pass c command_slots l ≡ read e) × (command_from e.verb e.got ≡ x)
-Whole l (Err f) = (c : Seen) → pass c command_slots l ≡ form_out f
+abbrev pub Whole : Left → Result Command FormFault → Type 0
+Whole was (Ok x) = (c : Seen) → (e : Seen) × (pass c command_slots was ≡ read e) × (command_from e.verb e.got ≡ x)
+Whole was (Err f) = (c : Seen) → pass c command_slots was ≡ form_out f

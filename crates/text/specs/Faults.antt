@@ -7,6 +7,8 @@ use Rattle.text.specs.declared.fault.FormCause.{FormCause}
 use Rattle.text.specs.declared.fault.FormCause.TheVariants.{Grammar, Number}
 use Rattle.text.specs.declared.fault.FormFault.{FormFault}
 use Rattle.text.specs.declared.fault.FormFault.TheVariants.{Chars, Form}
+use Rattle.text.specs.declared.fault.Layer.{Layer}
+use Rattle.text.specs.declared.fault.Layer.TheVariants.{Characters, Forms as InForms, List as InList}
 use Rattle.text.specs.declared.fault.TextFault.{TextFault}
 use Rattle.text.specs.declared.fault.TextFault.TheVariants.{Forms, List}
 use Rattle.text.specs.Grammar.{Out, fault}
@@ -30,5 +32,11 @@ text_out (Forms f) = form_out f
 text_out (List f) = fault (number_of f.refusal) f.place
 
 -- The layer of a fault by its number: 1 and 2 are of the characters, 3 and 4 of the forms, the others of the list.
-abbrev pub layer_of : ℕ → ℕ
-layer_of q = cond (nat_le q 2) 1 (cond (nat_le q 4) 2 3)
+abbrev pub layer_of : ℕ → Layer
+layer_of q = cond (nat_le q 2) Characters (cond (nat_le q 4) InForms InList)
+
+-- The number of a layer.
+abbrev pub layer_number : Layer → ℕ
+layer_number Characters = 1
+layer_number InForms = 2
+layer_number InList = 3

@@ -1,13 +1,13 @@
 -- The grammar of texts as slots that their tokens fill, the questions that each token must pass, and the one pass over them.
-use Rattle.std.specs.Prelude.{ℕ, ◌+◌, ◌-◌, ◌*◌, Bool, true, false, cond, List, [], ◌∷◌, ◌++◌, length, ◌==◌, nat_le, nat_lt, slice_index}
+use Rattle.std.specs.Prelude.{ℕ, ◌+◌, ◌-◌, ◌*◌, Bool, true, false, cond, List, [], ◌∷◌, ◌++◌, length, Option, ◌==◌, nat_le, nat_lt, slice_index}
 use Rattle.network.specs.declared.line.Line.{Line as NetLine}
 use Rattle.network.specs.Net.{Net, all_below}
 use Rattle.text.specs.declared.token.Kind.{Kind}
-use Rattle.text.specs.declared.token.Kind.TheVariants.{Between, Word, Number, Open, Close, Newline, Bad}
+use Rattle.text.specs.declared.token.Kind.TheVariants.{Word, Number, Open, Close, Newline, Bad}
 use Rattle.text.specs.declared.words.Name.{Name}
 use Rattle.text.specs.declared.words.Name.TheVariants.{Points, Line, End, Delay, Rate, Class, Room, Jitter, Loss, Fastest, Widest}
 use Rattle.text.specs.Items.{Item, is_word, is_number, items}
-use Rattle.text.specs.Names.{name_of, ordinal}
+use Rattle.text.specs.Names.{name_of, is_name}
 
 -- What may stand next: a bracket or newline; one word; the word line or end; a command's word; a number from lo to hi;
 -- the point count; an end of a line; the newline that ends a line's form; nothing.
@@ -22,15 +22,15 @@ pub data Slot : Type 0 where
   done : Slot
   nothing : Slot
 
--- What was read: the network so far, the numbers since the last form's or command's word, and the command's word.
+-- What was read: the network so far, the numbers since the last form's or command's word, and the command's word, once there is one.
 pub record Seen : Type 0 where
   pub net : Net
   pub got : List ℕ
-  pub verb : Name
+  pub verb : Option Name
 
 -- Whether a token is the word x.
 abbrev pub is : Name → Item → Bool
-is x t = ordinal (name_of t.bytes) == ordinal x
+is x t = is_name x (name_of t.bytes)
 
 -- The number that digits write, in base ten, after v.
 abbrev pub value_from : ℕ → List ℕ → ℕ
@@ -42,17 +42,16 @@ value_of bs = value_from 0 bs
 
 -- A number for each kind, by which kinds are compared.
 abbrev pub code : Kind → ℕ
-code Between = 0
-code Word = 1
-code Number = 2
-code Open = 3
-code Close = 4
-code Newline = 5
-code Bad = 6
+code Word = 0
+code Number = 1
+code Open = 2
+code Close = 3
+code Newline = 4
+code Bad = 5
 
 -- Question 2: is the byte one that a text may have?
 abbrev pub good_byte : Item → Bool
-good_byte t = cond (code t.kind == 6) false true
+good_byte t = cond (code t.kind == code Bad) false true
 
 -- Question 3: does the token fit the slot?
 abbrev pub fits : Slot → Item → Bool
@@ -123,7 +122,7 @@ abbrev pub noted : Seen → ℕ → Seen
 noted c v = record { net = c.net; got = c.got ++ v ∷ []; verb = c.verb }
 
 -- A form or a command begins: no number is read yet.
-abbrev pub begun : Seen → Name → Seen
+abbrev pub begun : Seen → Option Name → Seen
 begun c w = record { net = c.net; got = []; verb = w }
 
 -- The point count is set.
@@ -181,8 +180,8 @@ abbrev pub widest_slots : List Slot → List Slot
 widest_slots ss = figure ∷ figure ∷ mark Close ∷ ss
 
 -- What follows a command's word.
-abbrev pub verb_slots : Name → List Slot → List Slot
-verb_slots w ss = cond (ordinal w == ordinal Fastest) (fastest_slots ss) (widest_slots ss)
+abbrev pub verb_slots : Option Name → List Slot → List Slot
+verb_slots w ss = cond (is_name Fastest w) (fastest_slots ss) (widest_slots ss)
 
 -- The slots after the one that a token filled.
 abbrev pub next : Slot → Item → List Slot → List Slot

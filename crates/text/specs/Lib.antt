@@ -2,6 +2,7 @@ pub mod Items
 pub mod Tokens
 pub mod Names
 pub mod Gives
+pub mod Left
 pub mod ToCome
 pub mod Grammar
 pub mod Shapes

@@ -1,12 +1,11 @@
 -- What the reading of a list text answers.
-use Rattle.std.specs.Prelude.{ℕ, List, [], ◌++◌, Ok, Err, codes, decimal, Result}
+use Rattle.std.specs.Prelude.{ℕ, List, [], ◌++◌, None, Ok, Err, codes, decimal, Result}
 use Rattle.network.specs.Net.{Net}
 use Rattle.text.specs.declared.fault.FormFault.TheVariants.{Chars, Form}
 use Rattle.text.specs.declared.fault.TextFault.{TextFault}
 use Rattle.text.specs.declared.fault.TextFault.TheVariants.{Forms, List as InList}
-use Rattle.text.specs.declared.words.Name.TheVariants.{Other}
 use Rattle.network.specs.Refusals.{number_of}
-use Rattle.text.specs.Faults.{char_number, form_number, layer_of}
+use Rattle.text.specs.Faults.{char_number, form_number, layer_number, layer_of}
 use Rattle.text.specs.Grammar.{Seen, Out, read, fault, answer, list_slots}
 
 -- A fault: the number of the question that failed, and the place of the byte at fault, from 0.
@@ -27,7 +26,7 @@ faulted (Err f) = Err (fault_of f)
 
 -- Where a reading begins: the network that the draft holds, and no number read yet.
 abbrev pub start : Net → Seen
-start d = record { net = d; got = []; verb = Other }
+start d = record { net = d; got = []; verb = None }
 
 -- What a pass over a list ends with: a network, or a fault.
 abbrev pub outcome : Out → Result Net Fault
@@ -40,4 +39,4 @@ reading d text = outcome (answer (start d) list_slots text)
 
 -- How a fault is printed: its layer, its number and its place.
 abbrev pub fault_text : Fault → List ℕ
-fault_text f = codes "(fault " ++ (decimal (layer_of f.number) ++ (codes " " ++ (decimal f.number ++ (codes " " ++ (decimal f.place ++ codes ")")))))
+fault_text f = codes "(fault " ++ (decimal (layer_number (layer_of f.number)) ++ (codes " " ++ (decimal f.number ++ (codes " " ++ (decimal f.place ++ codes ")")))))

@@ -1,38 +1,38 @@
 -- The words of texts.
-use Rattle.std.specs.Prelude.{◌≡◌, ℕ, cond, List, codes, ◌≢◌}
+use Rattle.std.specs.Prelude.{◌≡◌, ℕ, Bool, false, cond, List, codes, Option, Some, None, ◌==◌, ◌≢◌}
 use Rattle.std.specs.Str.{bytes_eq}
 use Rattle.text.specs.declared.words.Name.{Name}
-use Rattle.text.specs.declared.words.Name.TheVariants.{Points, Line, End, Delay, Rate, Class, Room, Jitter, Loss, Fastest, Widest, Other}
+use Rattle.text.specs.declared.words.Name.TheVariants.{Points, Line, End, Delay, Rate, Class, Room, Jitter, Loss, Fastest, Widest}
 
--- The name that a word has, by comparing all its bytes.
-abbrev pub name_of : List ℕ → Name
+-- The name that a word has, if it has one, by comparing all its bytes.
+abbrev pub name_of : List ℕ → Option Name
 name_of w =
-    cond (bytes_eq w (codes "points")) Points
-    (cond (bytes_eq w (codes "line")) Line
-    (cond (bytes_eq w (codes "end")) End
-    (cond (bytes_eq w (codes "delay")) Delay
-    (cond (bytes_eq w (codes "rate")) Rate
-    (cond (bytes_eq w (codes "class")) Class
-    (cond (bytes_eq w (codes "room")) Room
-    (cond (bytes_eq w (codes "jitter")) Jitter
-    (cond (bytes_eq w (codes "loss")) Loss
-    (cond (bytes_eq w (codes "fastest")) Fastest
-    (cond (bytes_eq w (codes "widest")) Widest Other))))))))))
+    cond (bytes_eq w (codes "points")) (Some Points)
+    (cond (bytes_eq w (codes "line")) (Some Line)
+    (cond (bytes_eq w (codes "end")) (Some End)
+    (cond (bytes_eq w (codes "delay")) (Some Delay)
+    (cond (bytes_eq w (codes "rate")) (Some Rate)
+    (cond (bytes_eq w (codes "class")) (Some Class)
+    (cond (bytes_eq w (codes "room")) (Some Room)
+    (cond (bytes_eq w (codes "jitter")) (Some Jitter)
+    (cond (bytes_eq w (codes "loss")) (Some Loss)
+    (cond (bytes_eq w (codes "fastest")) (Some Fastest)
+    (cond (bytes_eq w (codes "widest")) (Some Widest) None))))))))))
 
 -- The same as a relation.
-abbrev pub NameIs : Name → List ℕ → Type 0
-NameIs Points w = w ≡ codes "points"
-NameIs Line w = w ≡ codes "line"
-NameIs End w = w ≡ codes "end"
-NameIs Delay w = w ≡ codes "delay"
-NameIs Rate w = w ≡ codes "rate"
-NameIs Class w = w ≡ codes "class"
-NameIs Room w = w ≡ codes "room"
-NameIs Jitter w = w ≡ codes "jitter"
-NameIs Loss w = w ≡ codes "loss"
-NameIs Fastest w = w ≡ codes "fastest"
-NameIs Widest w = w ≡ codes "widest"
-NameIs Other w = (w ≢ codes "points") × (w ≢ codes "line") × (w ≢ codes "end") × (w ≢ codes "delay") × (w ≢ codes "rate") × (w ≢ codes "class") × (w ≢ codes "room") × (w ≢ codes "jitter") × (w ≢ codes "loss") × (w ≢ codes "fastest") × (w ≢ codes "widest")
+abbrev pub NameIs : Option Name → List ℕ → Type 0
+NameIs (Some Points) w = w ≡ codes "points"
+NameIs (Some Line) w = w ≡ codes "line"
+NameIs (Some End) w = w ≡ codes "end"
+NameIs (Some Delay) w = w ≡ codes "delay"
+NameIs (Some Rate) w = w ≡ codes "rate"
+NameIs (Some Class) w = w ≡ codes "class"
+NameIs (Some Room) w = w ≡ codes "room"
+NameIs (Some Jitter) w = w ≡ codes "jitter"
+NameIs (Some Loss) w = w ≡ codes "loss"
+NameIs (Some Fastest) w = w ≡ codes "fastest"
+NameIs (Some Widest) w = w ≡ codes "widest"
+NameIs None w = (w ≢ codes "points") × (w ≢ codes "line") × (w ≢ codes "end") × (w ≢ codes "delay") × (w ≢ codes "rate") × (w ≢ codes "class") × (w ≢ codes "room") × (w ≢ codes "jitter") × (w ≢ codes "loss") × (w ≢ codes "fastest") × (w ≢ codes "widest")
 
 -- A number for each name, by which names are compared.
 abbrev pub ordinal : Name → ℕ
@@ -47,4 +47,8 @@ ordinal Jitter = 7
 ordinal Loss = 8
 ordinal Fastest = 9
 ordinal Widest = 10
-ordinal Other = 11
+
+-- Whether a word with that name, or with none, is the word x.
+abbrev pub is_name : Name → Option Name → Bool
+is_name x None = false
+is_name x (Some y) = ordinal y == ordinal x

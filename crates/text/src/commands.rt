@@ -7,16 +7,17 @@ ghost use Rattle.text.specs.Items.{items};
 ghost use Rattle.text.specs.Tokens.{Cuts};
 ghost use Rattle.text.specs.Listing.{faulted, start};
 ghost use Rattle.text.specs.Rule.{Earliest};
-ghost use Rattle.text.specs.Reads.{Reads, ends_seen, size};
+ghost use Rattle.text.specs.Reads.{Reads, ends_seen};
 
 use crate::fault::{FormFault, TextFault};
 use crate::forms::FormReader;
 use crate::reading::sized;
 use crate::token::Kind;
 use crate::words::Name;
+use std::marker::Model;
 
 /// A command, with its numbers as they were written.
-#[derive(Clone, Copy)]
+#[derive(Clone, Copy, PartialEq, Eq, Debug)]
 pub enum Command {
     /// The least delay from a point to another, over lines open for so many channels.
     Fastest { from: u32, to: u32, room: u32 },
@@ -30,11 +31,18 @@ struct CommandReader<'a> {
     forms: FormReader<'a>,
 }
 
+impl<'a> Model for CommandReader<'a> {
+    ghost use Rattle.text.specs.Left.{Left};
+
+    ghost Value = { Left };
+
+    ghost view = { λ r. r.forms };
+}
+
 impl<'a> CommandReader<'a> {
     /// The two points of a command.
     fn points(&mut self) -> Result<(u32, u32), FormFault>
-        ensures size { size self.new.forms.lexer ≡ size self.old.forms.lexer }
-        ensures reads { Reads (λ ss. figure ∷ figure ∷ ss) ends_seen self.old.forms.lexer result self.new.forms.lexer }
+        ensures reads { Reads (λ ss. figure ∷ figure ∷ ss) ends_seen self.old result self.new }
     {
         let from = self.forms.number(0, u32::MAX)?;
         let to = self.forms.number(0, u32::MAX)?;
@@ -43,9 +51,8 @@ impl<'a> CommandReader<'a> {
 
     /// What follows the word fastest.
     fn fastest(&mut self) -> Result<Command, FormFault>
-        ensures size { size self.new.forms.lexer ≡ size self.old.forms.lexer }
         ensures verb { IfOk result (λ x. verb_of x ≡ Name.Fastest) }
-        ensures reads { Ordered fastest_slots self.old.forms.lexer result self.new.forms.lexer }
+        ensures reads { Ordered fastest_slots self.old result self.new }
     {
         let (from, to) = self.points()?;
         let room = self.forms.field(Name::Room, 0, u32::MAX)?;
@@ -55,9 +62,8 @@ impl<'a> CommandReader<'a> {
 
     /// What follows the word widest.
     fn widest(&mut self) -> Result<Command, FormFault>
-        ensures size { size self.new.forms.lexer ≡ size self.old.forms.lexer }
         ensures verb { IfOk result (λ x. verb_of x ≡ Name.Widest) }
-        ensures reads { Ordered widest_slots self.old.forms.lexer result self.new.forms.lexer }
+        ensures reads { Ordered widest_slots self.old result self.new }
     {
         let (from, to) = self.points()?;
         self.forms.mark(Kind::Close)?;
@@ -66,18 +72,19 @@ impl<'a> CommandReader<'a> {
 
     /// A command from its word on, up to its closing bracket.
     fn order(&mut self) -> Result<Command, FormFault>
-        ensures size { size self.new.forms.lexer ≡ size self.old.forms.lexer }
-        ensures spoken { Spoken self.old.forms.lexer result self.new.forms.lexer }
+        ensures spoken { Spoken self.old result self.new }
     {
-        match self.forms.command()? {
-            Name::Fastest => self.fastest(),
-            _ => self.widest(),
+        let (fastest, _) = self.forms.either(Name::Fastest, Name::Widest)?;
+        if fastest {
+            self.fastest()
+        } else {
+            self.widest()
         }
     }
 
     /// A whole command.
     fn whole(&mut self) -> Result<Command, FormFault>
-        ensures { Whole self.old.forms.lexer result }
+        ensures { Whole self.old result }
     {
         self.forms.mark(Kind::Open)?;
         let command = self.order()?;
@@ -87,6 +94,7 @@ impl<'a> CommandReader<'a> {
 }
 
 /// Reads a command text.
+#[tactic(auto, using(crate::proofs::Cuts::cuts))]
 pub fn read_command(text: &[u8]) -> Result<Command, TextFault>
     ensures answer { faulted result ≡ commanded text.now }
     ensures earliest { Earliest (start new_draft) command_slots text.now (faulted result) }
@@ -96,6 +104,5 @@ pub fn read_command(text: &[u8]) -> Result<Command, TextFault>
     let mut reader = CommandReader {
         forms: FormReader::new(text),
     };
-    let command = reader.whole()?;
-    Ok(command)
+    Ok(reader.whole()?)
 }

@@ -1,56 +1,72 @@
 //! Why a text is refused, layer by layer: each layer has the faults of the layer below it and its own.
-pub mod shown;
-
-ghost use Rattle.std.specs.Prelude.{◌≡◌};
+ghost use Rattle.std.specs.Prelude.{◌≡◌, Some};
+ghost use Rattle.text.specs.Faults.{char_number, form_number, layer_of};
+ghost use Rattle.text.specs.Listing.{fault_of, fault_text};
 ghost use Rattle.text.specs.declared.fault.FormFault.TheVariants.{Chars};
 ghost use Rattle.text.specs.declared.fault.TextFault.TheVariants.{Forms, List};
 
 use network::Refusal;
+use std::error::Error;
+use std::fmt;
 
-#[derive(Clone, Copy)]
+/// Why the characters are refused, by the number of the question.
+#[derive(Clone, Copy, PartialEq, Eq, Debug)]
 pub enum CharCause {
     /// The text has more than 65,536 bytes.
-    TooLong,
+    TooLong = 1,
     /// A byte is no small letter, digit, round bracket, space or newline.
-    BadByte,
+    BadByte = 2,
 }
 
 /// A fault of the first layer, the characters.
-#[derive(Clone, Copy)]
+#[derive(Clone, Copy, PartialEq, Eq, Debug)]
 pub struct CharFault {
     pub cause: CharCause,
     pub place: usize,
 }
 
-#[derive(Clone, Copy)]
+/// Why the forms are refused, by the number of the question.
+#[derive(Clone, Copy, PartialEq, Eq, Debug)]
 pub enum FormCause {
     /// A token does not fit the grammar, or one is missing.
-    Grammar,
+    Grammar = 3,
     /// A number has more than ten digits or is out of range.
-    Number,
+    Number = 4,
 }
 
 /// A fault up to the second layer, the forms.
-#[derive(Clone, Copy)]
+#[derive(Clone, Copy, PartialEq, Eq, Debug)]
 pub enum FormFault {
     Chars(CharFault),
     Form(FormCause, usize),
 }
 
 /// What the draft refuses, at its place in the text.
-#[derive(Clone, Copy)]
+#[derive(Clone, Copy, PartialEq, Eq, Debug)]
 pub struct ListFault {
     pub refusal: Refusal,
     pub place: usize,
 }
 
 /// A fault up to the third layer, the list.
-#[derive(Clone, Copy)]
+#[derive(Clone, Copy, PartialEq, Eq, Debug)]
 pub enum TextFault {
     Forms(FormFault),
     List(ListFault),
 }
 
+/// The layer that finds a fault, by its number.
+#[derive(Clone, Copy, PartialEq, Eq, Debug)]
+pub enum Layer {
+    /// The characters of the text.
+    Characters = 1,
+    /// The forms, and their numbers.
+    Forms = 2,
+    /// The list.
+    List = 3,
+}
+
+// Stays: clauses need each `from_gives`, and a derived From has no contract.
 impl From<CharFault> for FormFault {
     ghost from_gives = { λ e r. r ≡ Chars e };
 
@@ -80,5 +96,69 @@ impl From<ListFault> for TextFault {
 
     fn from(e: ListFault) -> TextFault {
         TextFault::List(e)
+    }
+}
+
+impl CharCause {
+    fn number(self) -> u32
+        ensures { result ≡ char_number self }
+    {
+        self as u32
+    }
+}
+
+impl FormCause {
+    fn number(self) -> u32
+        ensures { result ≡ form_number self }
+    {
+        self as u32
+    }
+}
+
+impl TextFault {
+    /// The number of the question that failed.
+    pub fn number(&self) -> u32
+        ensures { result ≡ (fault_of self.now).number }
+    {
+        match self {
+            TextFault::Forms(FormFault::Chars(f)) => f.cause.number(),
+            TextFault::Forms(FormFault::Form(cause, _)) => cause.number(),
+            TextFault::List(f) => f.refusal.number(),
+        }
+    }
+
+    /// The place of the byte at fault, from 0.
+    pub fn place(&self) -> usize
+        ensures { result ≡ (fault_of self.now).place }
+    {
+        match self {
+            TextFault::Forms(FormFault::Chars(f)) => f.place,
+            TextFault::Forms(FormFault::Form(_, place)) => *place,
+            TextFault::List(f) => f.place,
+        }
+    }
+
+    /// The layer that found it.
+    pub fn layer(&self) -> Layer
+        ensures { result ≡ layer_of (fault_of self.now).number }
+    {
+        match self.number() {
+            0..=2 => Layer::Characters,
+            3..=4 => Layer::Forms,
+            _ => Layer::List,
+        }
+    }
+}
+
+impl Error for TextFault {}
+
+impl fmt::Display for TextFault {
+    ghost output = { λ f. Some (fault_text (fault_of f)) };
+
+    fn fmt<W: fmt::Write>(&self, f: &mut fmt::Formatter<W>) -> fmt::Result {
+        let layer = self.layer() as u32;
+        let number = self.number();
+        let place = self.place();
+        write!(f, "(fault {layer} {number} {place})")
     }
 }

@@ -1,14 +1,14 @@
 //! The form reader: tokens against the grammar, and numbers.
-ghost use Rattle.std.specs.Prelude.{◌≡◌, ◌≤◌, ◌∷◌, length, IfOk};
-ghost use Rattle.text.specs.Grammar.{done, field, form, line_from, lined, mark, noted, number, value_of, word};
-ghost use Rattle.text.specs.Items.{rest};
-ghost use Rattle.text.specs.Reads.{Chosen, Counts, Ends, Reads, Takes, Verb, size};
-ghost use Rattle.text.specs.ToCome.{to_come};
+ghost use Rattle.std.specs.Prelude.{◌≡◌, ◌≤◌, [], ◌∷◌, length, IfOk};
+ghost use Rattle.text.specs.Grammar.{done, field, line_from, lined, mark, noted, number, value_of, word};
+ghost use Rattle.text.specs.Left.{left_of};
+ghost use Rattle.text.specs.Reads.{Chosen, Counts, Ends, Reads, Takes};
 
 use crate::fault::{FormCause, FormFault};
 use crate::lexer::Lexer;
 use crate::token::{Kind, Token};
 use crate::words::{Name, name_of};
+use std::marker::Model;
 
 /// Reads the parts of forms from a lexer's tokens.
 #[derive(Drop)]
@@ -16,11 +16,20 @@ pub(crate) struct FormReader<'a> {
     lexer: Lexer<'a>,
 }
 
+impl<'a> Model for FormReader<'a> {
+    ghost use Rattle.text.specs.Left.{Left};
+    ghost use Rattle.text.specs.ToCome.{left_in};
+
+    ghost Value = { Left };
+
+    ghost view = { λ r. left_in r.lexer };
+}
+
 impl<'a> FormReader<'a> {
     /// A reader at the beginning of a text.
+    #[tactic(auto, using(crate::proofs::Same::all_items))]
     pub(crate) fn new(text: &'a [u8]) -> FormReader<'a>
-        ensures to_come { to_come result.lexer ≡ rest Kind.Between 0 0 text.now }
-        ensures size { size result.lexer ≡ length text.now }
+        ensures { result ≡ left_of text.now }
     {
         FormReader {
             lexer: Lexer::new(text),
@@ -29,19 +38,16 @@ impl<'a> FormReader<'a> {
 
     /// The next token; none is a fault at the text's length.
     fn token(&mut self) -> Result<Token<'a>, FormFault>
-        ensures size { size self.new.lexer ≡ size self.old.lexer }
-        ensures takes { Takes self.old.lexer result self.new.lexer }
+        ensures takes { Takes self.old result self.new }
     {
-        match self.lexer.next()? {
-            Some(t) => Ok(t),
-            None => Err(FormFault::Form(FormCause::Grammar, self.lexer.len())),
-        }
+        self.lexer
+            .next()?
+            .ok_or(FormFault::Form(FormCause::Grammar, self.lexer.len()))
     }
 
     /// A bracket or a newline.
     pub(crate) fn mark(&mut self, kind: Kind) -> Result<(), FormFault>
-        ensures size { size self.new.lexer ≡ size self.old.lexer }
-        ensures reads { Reads (λ ss. mark kind ∷ ss) (λ c v. c) self.old.lexer result self.new.lexer }
+        ensures reads { Reads (λ ss. mark kind ∷ ss) (λ c v. c) self.old result self.new }
     {
         let t = self.token()?;
         if t.kind == kind {
@@ -53,11 +59,10 @@ impl<'a> FormReader<'a> {
 
     /// The word that has this name.
     pub(crate) fn word(&mut self, name: Name) -> Result<(), FormFault>
-        ensures size { size self.new.lexer ≡ size self.old.lexer }
-        ensures reads { Reads (λ ss. word name ∷ ss) (λ c v. c) self.old.lexer result self.new.lexer }
+        ensures reads { Reads (λ ss. word name ∷ ss) (λ c v. c) self.old result self.new }
     {
         let t = self.token()?;
-        if t.kind == Kind::Word && name_of(t.bytes) == name {
+        if t.kind == Kind::Word && name_of(t.bytes) == Some(name) {
             Ok(())
         } else {
             Err(FormFault::Form(FormCause::Grammar, t.place))
@@ -66,8 +71,7 @@ impl<'a> FormReader<'a> {
 
     /// A number of at most ten digits, with its place.
     pub(crate) fn digits(&mut self) -> Result<(u64, usize), FormFault>
-        ensures size { size self.new.lexer ≡ size self.old.lexer }
-        ensures counts { Counts self.old.lexer result self.new.lexer }
+        ensures counts { Counts self.old result self.new }
     {
         let t = self.token()?;
         if t.kind != Kind::Number {
@@ -81,9 +85,8 @@ impl<'a> FormReader<'a> {
 
     /// A number from `lo` to `hi`.
     pub(crate) fn number(&mut self, lo: u32, hi: u32) -> Result<u32, FormFault>
-        ensures size { size self.new.lexer ≡ size self.old.lexer }
         ensures within { IfOk result (λ v. (lo ≤ v) × (v ≤ hi)) }
-        ensures reads { Reads (λ ss. number lo hi ∷ ss) noted self.old.lexer result self.new.lexer }
+        ensures reads { Reads (λ ss. number lo hi ∷ ss) noted self.old result self.new }
     {
         let (v, place) = self.digits()?;
         if u64::from(lo) <= v && v <= u64::from(hi) {
@@ -95,9 +98,8 @@ impl<'a> FormReader<'a> {
 
     /// An inner part: a word and a number in brackets.
     pub(crate) fn field(&mut self, name: Name, lo: u32, hi: u32) -> Result<u32, FormFault>
-        ensures size { size self.new.lexer ≡ size self.old.lexer }
         ensures within { IfOk result (λ v. (lo ≤ v) × (v ≤ hi)) }
-        ensures reads { Reads (field name lo hi) noted self.old.lexer result self.new.lexer }
+        ensures reads { Reads (field name lo hi) noted self.old result self.new }
     {
         self.mark(Kind::Open)?;
         self.word(name)?;
@@ -106,61 +108,52 @@ impl<'a> FormReader<'a> {
         Ok(v)
     }
 
-    /// The word line or end, with its place.
-    pub(crate) fn form(&mut self) -> Result<(Name, usize), FormFault>
-        ensures size { size self.new.lexer ≡ size self.old.lexer }
-        ensures chosen { Chosen form Name.Line Name.End self.old.lexer result self.new.lexer }
+    /// One of two words: whether it is the first, and its place.
+    pub(crate) fn either(&mut self, first: Name, second: Name) -> Result<(bool, usize), FormFault>
+        ensures { Chosen first second self.old result self.new }
     {
         let t = self.token()?;
         if t.kind == Kind::Word {
             let name = name_of(t.bytes);
-            if name == Name::Line || name == Name::End {
-                return Ok((name, t.place));
+            if name == Some(first) {
+                return Ok((true, t.place));
             }
-        }
-        Err(FormFault::Form(FormCause::Grammar, t.place))
-    }
-
-    /// A command's word.
-    pub(crate) fn command(&mut self) -> Result<Name, FormFault>
-        ensures size { size self.new.lexer ≡ size self.old.lexer }
-        ensures verb { Verb self.old.lexer result self.new.lexer }
-    {
-        let t = self.token()?;
-        if t.kind == Kind::Word {
-            let name = name_of(t.bytes);
-            if name == Name::Fastest || name == Name::Widest {
-                return Ok(name);
+            if name == Some(second) {
+                return Ok((false, t.place));
             }
         }
         Err(FormFault::Form(FormCause::Grammar, t.place))
     }
 
     /// The newline that ends a line's form.
+    #[tactic(auto, using(crate::proofs::Slots::done_reads))]
     pub(crate) fn done(&mut self) -> Result<(), FormFault>
-        ensures size { size self.new.lexer ≡ size self.old.lexer }
-        ensures reads { Reads (λ ss. done ∷ ss) (λ c v. lined c (line_from c.got)) self.old.lexer result self.new.lexer }
+        ensures reads { Reads (λ ss. done ∷ ss) (λ c v. lined c (line_from c.got)) self.old result self.new }
     {
-        let t = self.token()?;
-        if t.kind == Kind::Newline {
-            Ok(())
-        } else {
-            Err(FormFault::Form(FormCause::Grammar, t.place))
-        }
+        self.mark(Kind::Newline)
     }
 
     /// Nothing more.
     pub(crate) fn end(&mut self) -> Result<(), FormFault>
-        ensures size { size self.new.lexer ≡ size self.old.lexer }
-        ensures ends { Ends self.old.lexer result }
+        ensures ends { Ends [] self.old result }
     {
         match self.lexer.next()? {
             Some(t) => Err(FormFault::Form(FormCause::Grammar, t.place)),
             None => Ok(()),
         }
     }
+
+    /// What follows the word end: its bracket, its newline, and nothing more.
+    pub(crate) fn finish(&mut self) -> Result<(), FormFault>
+        ensures ends { Ends (mark Kind.Close ∷ mark Kind.Newline ∷ []) self.old result }
+    {
+        self.mark(Kind::Close)?;
+        self.mark(Kind::Newline)?;
+        self.end()
+    }
 }
 
+// Stays: the closure of a fold sees the number so far and not the count of digits, which is what bounds it.
 /// The number that at most ten digits write.
 fn value(bytes: &[u8]) -> u64
     requires { length bytes.now ≤ 10 }
@@ -168,7 +161,7 @@ fn value(bytes: &[u8]) -> u64
 {
     let mut v: u64 = 0;
     for b in bytes {
-        v = v * 10 + u64::from(b.saturating_sub(48));
+        v = v * 10 + u64::from(b.saturating_sub(b'0'));
     }
     v
 }

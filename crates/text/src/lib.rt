@@ -11,5 +11,5 @@ mod token;
 mod words;
 
 pub use commands::{Command, read_command};
-pub use fault::TextFault;
+pub use fault::{Layer, TextFault};
 pub use reading::read_list;

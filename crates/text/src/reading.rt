@@ -1,5 +1,5 @@
 //! Reads a whole list text into a draft.
-ghost use Rattle.std.specs.Prelude.{◌≡◌, ◌≤◌, true, length, take, is_ok};
+ghost use Rattle.std.specs.Prelude.{◌≡◌, ◌≤◌, true, take, is_ok};
 ghost use Rattle.network.specs.Held.{drawn};
 ghost use Rattle.network.specs.Net.{all_below};
 ghost use Rattle.network.specs.Refusals.{answered, left_by};
@@ -17,6 +17,7 @@ use network::Draft;
 
 /// Reads a list text into the draft: it sets the draft's point count, and adds the text's lines to those that the draft
 /// holds. A text with a fault leaves the draft as it was.
+#[tactic(auto, using(crate::proofs::Cuts::cuts))]
 pub fn read_list(text: &[u8], draft: &mut Draft) -> Result<(), TextFault>
     ensures answer { faulted result ≡ answered (reading (drawn draft.old) text.now) }
     ensures after { drawn draft.new ≡ left_by (drawn draft.old) (reading (drawn draft.old) text.now) }
@@ -51,9 +52,11 @@ pub(crate) fn sized(text: &[u8]) -> Result<(), CharFault>
 
 /// Takes the draft back to its first `count` lines and to `points`.
 fn restore(draft: &mut Draft, points: u32, count: usize)
-    requires { (2 ≤ points) × ((points ≤ 64) × (all_below points (take count (drawn draft.old).lines) ≡ true)) }
+    requires points_least { 2 ≤ points }
+    requires points_most { points ≤ 64 }
+    requires below { all_below points (take count (drawn draft.old).lines) ≡ true }
     ensures { drawn draft.new ≡ record { points = points; lines = take count (drawn draft.old).lines } }
 {
     draft.keep_first(count);
-    let _ = draft.set_points(points);
+    draft.set_points(points).unwrap();
 }

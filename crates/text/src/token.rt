@@ -1,10 +1,8 @@
 //! What a text is cut into.
 
-/// What the lexer is in the middle of, and the kind of a token.
+/// The kind of a token, and of the run that the lexer is in.
 #[derive(Clone, Copy, PartialEq, Eq)]
 pub(crate) enum Kind {
-    /// Between two tokens: only spaces since the last.
-    Between,
     /// A run of small letters.
     Word,
     /// A run of digits.

@@ -1,31 +1,43 @@
-use Rattle.std.proofs.Common.{◌+◌, ◌<◌, false, length, get_or, None, sym, ◌∙◌, subst, le_antisymm, arith}
+use Rattle.std.proofs.Common.{◌≡◌, ◌+◌, false, length, get_or, Some, None, sym, ap, ◌∙◌, subst, arith}
 use Rattle.std.proofs.lemmas.Bool.{both_ways}
-use Rattle.std.proofs.lemmas.List.{get_or_read}
-use Rattle.sweep.specs.Front.{Picked}
+use Rattle.std.proofs.lemmas.List.{length_push}
+use Rattle.sweep.specs.Front.{Picked, better}
+use Rattle.sweep.proofs.Numbered.{numbered_turn, numbered_end}
 use Rattle.sweep.proofs.Picks.{picked_pass, picked_take}
 use Rattle.sweep.proofs.table.pick.Goals as goal
-use Rattle.sweep.proofs.table.pick.Goals.{then-not-done-v+in-Some, then-not-done-v+in_default, else-not-done-v}
+use Rattle.sweep.proofs.table.pick.Goals.{else-not-done-via-else-not-done, else-not-done-via-then-not-done+in-None-1}
+
+pub loop-v-preserved-in-loop-v : goal.loop-v-preserved-in-loop-v
+loop-v-preserved-in-loop-v g c =
+    let ds = c.args.done.now in
+    let bs = c.args.best.now in
+    let n = length c.loop-v.yielded in
+    let t = numbered_turn ds bs c.loop-v.yielded c.into_iter-v-iterator.result c.loop-v.v-iterator c.next.new.self c.next.result
+    c.into_iter-v-iterator.ensures.into_iter_gives c.enumerate-v-items.ensures.source c.enumerate-v-items.ensures.count c.zip.ensures.first c.iter.ensures.rest c.zip.ensures.second.0 c.loop-v.yielded_by (c.in-Some.v, (c.in-Some.done, c.in-Some.value)) c.in-Some.is c.next.ensures.steps in
+    let free = sym (t.3 false) ∙ c.if-not-done.true in
+    let has = sym (t.4 None) ∙ c.in-Some-value.is in
+    let step = picked_take g.met.G.Grading.lawful ds bs c.loop-v.found n c.in-Some-value.x c.loop-v.invariant free has in
+    let taken = c.first.ensures ∙ ap (λ v. better g.G.Grading.ops.le c.loop-v.found v c.in-Some-value.x) t.2 in
+    subst (λ m. Picked g.G.Grading.ops.le m ds bs (Some c.first.result)) (sym (length_push c.loop-v.yielded (c.in-Some.v, (c.in-Some.done, c.in-Some.value)))) (subst (λ f. Picked g.G.Grading.ops.le (n + 1) ds bs (Some f)) (sym taken) step)
 
 pub loop-v-preserved : goal.loop-v-preserved
 loop-v-preserved g c =
-    let le = g.G.Grading.ops.le in
-    let laws = g.met.G.Grading.lawful in
-    let d = c.args.done.now in
-    let b = c.args.best.now in
-    let v = c.loop-v.v in
-    let in_best : v < length b = omega arith in
-    elim c.if-not-done-v.branch [
-      | then-not-done-v+in-Some w ↦
-          let read = sym (get_or_read b v w.index-best-v.result in_best w.index-best-v.is None) ∙ w.in-Some.is in
-          subst (λ f. Picked le (v + 1) d b f) (sym (w.found-is ∙ w.first-found.ensures)) (picked_take laws d b c.loop-v.found v w.in-Some.x c.loop-v.invariant w.if-not-done-v.true read)
-      | then-not-done-v+in_default w ↦
-          let read = sym (get_or_read b v w.index-best-v.result in_best w.index-best-v.is None) ∙ w.in_default.is in
-          subst (λ f. Picked le (v + 1) d b f) (sym w.found-is) (picked_pass laws d b c.loop-v.found v c.loop-v.invariant (λ _. read))
-      | else-not-done-v w ↦
-          subst (λ f. Picked le (v + 1) d b f) (sym w.found-is) (picked_pass laws d b c.loop-v.found v c.loop-v.invariant (λ e. absurd (both_ways (get_or d v false) e w.if-not-done-v.false)))
-    ]
+    let ds = c.args.done.now in
+    let bs = c.args.best.now in
+    let n = length c.loop-v.yielded in
+    let t = numbered_turn ds bs c.loop-v.yielded c.into_iter-v-iterator.result c.loop-v.v-iterator c.next.new.self c.next.result
+    c.into_iter-v-iterator.ensures.into_iter_gives c.enumerate-v-items.ensures.source c.enumerate-v-items.ensures.count c.zip.ensures.first c.iter.ensures.rest c.zip.ensures.second.0 c.loop-v.yielded_by (c.in-Some.v, (c.in-Some.done, c.in-Some.value)) c.in-Some.is c.next.ensures.steps in
+    let none : get_or ds n false ≡ false → get_or bs n None ≡ None = elim c.else-not-done.branch [
+      | else-not-done-via-else-not-done w ↦ λ d. absurd (both_ways c.in-Some.done.now (t.3 false ∙ d) w.if-not-done.false)
+      | else-not-done-via-then-not-done+in-None-1 w ↦ λ d. sym (t.4 None) ∙ (cc)
+    ] in
+    subst (λ m. Picked g.G.Grading.ops.le m ds bs c.loop-v.found) (sym (length_push c.loop-v.yielded (c.in-Some.v, (c.in-Some.done, c.in-Some.value)))) (picked_pass g.met.G.Grading.lawful ds bs c.loop-v.found n c.loop-v.invariant none)
 
 pub returns : goal.returns
 returns g c =
-    let e = le_antisymm c.loop-v.auto.v-end c.loop-v-test.false in
-    subst (λ m. Picked g.G.Grading.ops.le m c.args.done.now c.args.best.now c.loop-v.found) e c.loop-v.invariant
+    let ds = c.args.done.now in
+    let bs = c.args.best.now in
+    let end = numbered_end ds bs c.loop-v.yielded c.into_iter-v-iterator.result c.loop-v.v-iterator c.next.new.self c.next.result
+    c.into_iter-v-iterator.ensures.into_iter_gives c.enumerate-v-items.ensures.source c.enumerate-v-items.ensures.count c.zip.ensures.first c.iter.ensures.rest c.zip.ensures.second.0 c.loop-v.yielded_by c.in-None.is c.next.ensures.steps in
+    let all : length c.loop-v.yielded ≡ length bs = omega arith in
+    subst (λ m. Picked g.G.Grading.ops.le m ds bs c.loop-v.found) all c.loop-v.invariant

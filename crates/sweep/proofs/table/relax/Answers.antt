@@ -1,52 +1,44 @@
-use Rattle.std.proofs.Common.{◌<◌, false, length, get_or, sym, refl, ap, ◌∙◌, subst, le_antisymm, arith}
-use Rattle.std.proofs.lemmas.Bool.{both_ways}
-use Rattle.runs.specs.declared.arc.Arc.{Arc}
+use Rattle.std.proofs.Common.{◌<◌, ◌≤◌, length, None, sym, ap, ◌∙◌, arith}
+use Rattle.std.proofs.lemmas.List.{length_push, get_or_default}
 use Rattle.runs.specs.Graphs.{arc_at}
-use Rattle.runs.specs.Held.{graph, sound}
+use Rattle.runs.specs.Held.{graph}
 use Rattle.sweep.specs.Best.{Allowed}
-use Rattle.sweep.specs.Laws.{Ranged}
-use Rattle.sweep.proofs.Turns.{Relaxed, relax_skip, relax_offer, extended}
+use Rattle.sweep.specs.Front.{kept}
+use Rattle.sweep.proofs.Turns.{turn_of, all_turned, relax_skip, relax_offer, relax_end, extended}
 use Rattle.sweep.proofs.table.relax.Goals as goal
-use Rattle.sweep.proofs.table.relax.Goals.{then-marked+then-arc-u, else-marked, else-marked-via-then-marked+else-arc-u, else-marked-via-else-marked}
 
-pub loop-k-init : goal.loop-k-init
-loop-k-init g c = (λ s done mark near f. f, refl)
+pub offset_bounds-best-arc : goal.offset_bounds-best-arc
+offset_bounds-best-arc g c =
+    let t = turn_of c.args.arcs.now c.args.allowed.now c.loop-arc.yielded c.into_iter-arc-iterator.result c.loop-arc.arc-iterator c.next.new.self c.next.result
+    c.into_iter-arc-iterator.ensures.into_iter_gives c.zip-arc-items.ensures.first (c.iter.ensures.rest ∙ c.as_slice.ensures) c.zip-arc-items.ensures.second.0 c.loop-arc.yielded_by (c.in-Some.arc, c.in-Some.allowed) c.in-Some.is c.next.ensures.steps in
+    let below = t.to_below in
+    let lt : c.in-Some.arc.now.to ≤ length c.args.best.now = omega (arith, c.requires.table) in
+    grind arith
 
-pub offer-requires : goal.offer-requires
-offer-requires g c =
-    let within = (sound c.args.arcs.now).to_below c.loop-k.k in
-    let to_is = ap (λ (a : Arc). a.to) c.arc-arc.ensures in
-    omega (arith, c.requires.table, c.loop-k.auto.best)
+pub bounds-best-arc : goal.bounds-best-arc
+bounds-best-arc g c =
+    let t = turn_of c.args.arcs.now c.args.allowed.now c.loop-arc.yielded c.into_iter-arc-iterator.result c.loop-arc.arc-iterator c.next.new.self c.next.result
+    c.into_iter-arc-iterator.ensures.into_iter_gives c.zip-arc-items.ensures.first (c.iter.ensures.rest ∙ c.as_slice.ensures) c.zip-arc-items.ensures.second.0 c.loop-arc.yielded_by (c.in-Some.arc, c.in-Some.allowed) c.in-Some.is c.next.ensures.steps in
+    omega (arith, t.to_below, c.requires.table, c.loop-arc.auto.best)
 
-pub loop-k-preserved : goal.loop-k-preserved
-loop-k-preserved g c =
-    let k = c.loop-k.k in
-    let arcs = graph c.args.arcs.now in
-    let good = sound c.args.arcs.now in
-    let laws = g.met.G.Grading.lawful in
-    let usable = Allowed arcs c.args.allowed.now in
-    let a = c.arc-arc.result in
-    let a_is = c.arc-arc.ensures in
-    let km : k < length arcs.arcs = omega (arith, c.loop-k-test.true, c.count-k-end.ensures) in
-    let from_is = ap (λ (x : Arc). x.from) a_is in
-    let to_is = ap (λ (x : Arc). x.to) a_is in
-    let within = good.to_below k in
-    let tn : a.to < arcs.points = omega arith in
-    let tl : a.to < length c.loop-k.best = omega (arith, c.requires.table, c.loop-k.auto.best) in
-    let ranged : Ranged a = subst Ranged (sym a_is) (good.delay_most k, good.room_most k) in
-    let skip = relax_skip laws (arc_at arcs) usable arcs.points c.args.u c.args.x c.args.best.now k c.loop-k.best c.if-marked.best c.loop-k.invariant in
-    let offer = relax_offer laws (arc_at arcs) usable arcs.points c.args.u c.args.x c.args.best.now k c.loop-k.best c.if-marked.best c.loop-k.invariant in
-    elim c.if-marked.branch [
-      | then-marked+then-arc-u b ↦ offer a b.extend.result a_is (km, sym b.if-marked.ensures) b.if-arc-u.true tn tl (b.extend.ensures ∙ extended laws c.args.x a ranged c.requires.fits) (b.best-is ∙ b.offer.ensures)
-      | else-marked b ↦ elim b.else-marked.branch [
-        | else-marked-via-then-marked+else-arc-u b' ↦ skip (λ _ e. b'.if-arc-u.false (from_is ∙ e)) b.best-is
-        | else-marked-via-else-marked b' ↦ skip (λ o _. both_ways (get_or c.args.allowed.now k false) (sym b'.if-marked.ensures) o.1) b.best-is
-      ]
-    ]
+pub loop-arc-preserved-then-leaves : goal.loop-arc-preserved-then-leaves
+loop-arc-preserved-then-leaves g c =
+    let t = turn_of c.args.arcs.now c.args.allowed.now c.loop-arc.yielded c.into_iter-arc-iterator.result c.loop-arc.arc-iterator c.next.new.self c.next.result
+    c.into_iter-arc-iterator.ensures.into_iter_gives c.zip-arc-items.ensures.first (c.iter.ensures.rest ∙ c.as_slice.ensures) c.zip-arc-items.ensures.second.0 c.loop-arc.yielded_by (c.in-Some.arc, c.in-Some.allowed) c.in-Some.is c.next.ensures.steps in
+    let lt : c.in-Some.arc.now.to < length c.loop-arc.best = omega (arith, t.to_below, c.requires.table, c.loop-arc.auto.best) in
+    let y = c.extend.ensures ∙ extended g.met.G.Grading.lawful c.args.x c.in-Some.arc.now t.ranged c.requires.fits in
+    let o = c.offer.ensures ∙ ap (λ p. kept g.G.Grading.ops.le p c.extend.result) (get_or_default c.loop-arc.best c.in-Some.arc.now.to c.index-best-arc.result None lt) in
+    ((tt, tt), tt, relax_offer g.met.G.Grading.lawful (graph c.args.arcs.now) c.args.allowed.now c.args.u c.args.x c.args.best.now (length c.loop-arc.yielded) c.loop-arc.best c.loop-arc.invariant.2 t _ (length_push c.loop-arc.yielded (c.in-Some.arc, c.in-Some.allowed)) (sym c.if-leaves.ensures) lt c.extend.result c.offer.new.place y o)
+
+pub loop-arc-preserved : goal.loop-arc-preserved
+loop-arc-preserved g c =
+    let t = turn_of c.args.arcs.now c.args.allowed.now c.loop-arc.yielded c.into_iter-arc-iterator.result c.loop-arc.arc-iterator c.next.new.self c.next.result
+    c.into_iter-arc-iterator.ensures.into_iter_gives c.zip-arc-items.ensures.first (c.iter.ensures.rest ∙ c.as_slice.ensures) c.zip-arc-items.ensures.second.0 c.loop-arc.yielded_by (c.in-Some.arc, c.in-Some.allowed) c.in-Some.is c.next.ensures.steps in
+    ((tt, tt), tt, relax_skip g.met.G.Grading.lawful (graph c.args.arcs.now) c.args.allowed.now c.args.u c.args.x c.args.best.now (length c.loop-arc.yielded) c.loop-arc.best c.loop-arc.invariant.2 t _ (length_push c.loop-arc.yielded (c.in-Some.arc, c.in-Some.allowed)) (sym c.if-leaves.ensures))
 
 pub returns : goal.returns
 returns g c =
     let arcs = graph c.args.arcs.now in
-    let e = le_antisymm c.loop-k.auto.k-end c.loop-k-test.false ∙ c.count-k-end.ensures in
-    let h = subst (λ k. Relaxed g.G.Grading.ops (arc_at arcs) (Allowed arcs c.args.allowed.now) arcs.points c.args.u c.args.x c.args.best.now k c.loop-k.best) e c.loop-k.invariant in
-    record { keeps = h.0; rest = h.1 }
+    let all = all_turned c.args.arcs.now c.args.allowed.now c.loop-arc.yielded c.into_iter-arc-iterator.result c.loop-arc.arc-iterator c.next.new.self c.next.result
+    c.into_iter-arc-iterator.ensures.into_iter_gives c.zip-arc-items.ensures.first (c.iter.ensures.rest ∙ c.as_slice.ensures) c.zip-arc-items.ensures.second.0 c.loop-arc.yielded_by c.in-None.is c.next.ensures.steps in
+    relax_end g.met.G.Grading.lawful (arc_at arcs) (Allowed arcs c.args.allowed.now) arcs.points c.args.u c.args.x c.args.best.now (length c.loop-arc.yielded) c.loop-arc.best c.loop-arc.invariant.2 (length arcs.arcs) all

@@ -1,26 +1,40 @@
-use Rattle.std.proofs.Common.{◌<◌, ◌≤◌, leb, length, None, refl, arith}
+use Rattle.std.proofs.Common.{◌≡◌, ◌<◌, ◌≤◌, leb, length, None, Ok, sym, refl, subst, arith}
 use Rattle.std.proofs.lemmas.List.{get_or_read}
 use Rattle.std.proofs.lemmas.Bool.{leb-true}
-use Rattle.network.specs.Refusals.{numbered}
-use Rattle.runs.specs.Graphs.{graph_of, open_marks}
-use Rattle.sweep.specs.Values.{place_questions}
-use Rattle.sweep.proofs.Filled.{reached_read}
+use Rattle.runs.specs.Graphs.{seen_at, graph_of}
+use Rattle.runs.specs.Held.{graph}
+use Rattle.sweep.specs.Best.{BestAt}
+use Rattle.sweep.specs.Values.{OpenLine, Says}
+use Rattle.sweep.proofs.Filled.{filled, says_found}
 use Rattle.sweep.proofs.Judged.{asked}
-use Rattle.sweep.proofs.Rounds.{table_length}
 use Rattle.sweep.proofs.values.reach.Goals as goal
 
-pub returns : goal.returns
-returns g c =
+pub returns-clause-best : goal.returns-clause-best
+returns-clause-best g c =
     let net = g.N.Network.net c.args.network.now in
     let closures = c.args.closures.now in
-    let was = c.args.table.now in
-    let h = c.in_ok-fill.ensures in
-    let ok = h.answer in
-    let a = asked (leb (length net.lines) (length closures)) 16 (tt {0}) _ ok in
-    let b = asked (leb net.points (length was)) 17 (tt {0}) _ a.1 in
-    let places : net.points ≤ length was = leb-true _ _ b.0 in
-    let within : c.args.t < length c.fill.new.table = omega (arith, places, c.fill.auto.table, c.requires.end) in
-    let read = get_or_read c.fill.new.table c.args.t c.index-table-t.result within c.index-table-t.is None in
-    let f = reached_read g.G.Grading.ops net closures c.args.g c.args.s c.args.t was c.fill.new.table (numbered c.found.result) c.index-table-t.result
-    (place_questions net closures (length was)) ok c.requires.end (table_length g.G.Grading.ops (graph_of net closures c.args.g) (open_marks (graph_of net closures c.args.g)) c.args.s) h.table read (h.best refl c.args.t c.requires.end) c.found.ensures in
-    record { answer = f.0; table = f.1; says = f.2 }
+    let arcs = graph c.in_ok-arcs.arcs in
+    let a = asked (leb (length net.lines) (length closures)) 16 arcs _ c.in_ok-arcs.ensures in
+    let ok = a.1 in
+    let e : arcs ≡ graph_of net closures c.args.g = cc in
+    let h = c.in_ok-sweep.ensures in
+    let f = filled g.G.Grading.ops net closures c.args.g c.args.s c.requires.start (g.N.Network.ranged c.args.network.now).few a.0 c.args.table.now c.sweep.new.best (Ok tt) arcs c.open_marks.result e c.open_marks.ensures (h.answer, h.table, h.best) in
+    λ _. f.2 refl
+
+pub returns-clause-says : goal.returns-clause-says
+returns-clause-says g c =
+    let net = g.N.Network.net c.args.network.now in
+    let closures = c.args.closures.now in
+    let arcs = graph c.in_ok-arcs.arcs in
+    let a = asked (leb (length net.lines) (length closures)) 16 arcs _ c.in_ok-arcs.ensures in
+    let ok = a.1 in
+    let e : arcs ≡ graph_of net closures c.args.g = cc in
+    let h = c.in_ok-sweep.ensures in
+    let f = filled g.G.Grading.ops net closures c.args.g c.args.s c.requires.start (g.N.Network.ranged c.args.network.now).few a.0 c.args.table.now c.sweep.new.best (Ok tt) arcs c.open_marks.result e c.open_marks.ensures (h.answer, h.table, h.best) in
+    let ops = g.G.Grading.ops in
+    let b = asked (leb net.points (length c.args.table.now)) 17 (tt {0}) _ (asked (leb (length net.lines) (length closures)) 16 (tt {0}) _ f.0).1 in
+    let places : net.points ≤ length c.args.table.now = leb-true _ _ b.0 in
+    let within : c.args.t < length c.sweep.new.best = omega (arith, places, c.sweep.auto.best, c.requires.end) in
+    let read = get_or_read c.sweep.new.best c.args.t c.index-table-t.result within c.index-table-t.is None in
+    let best = subst (BestAt ops (seen_at net closures c.args.g) (OpenLine net closures c.args.g) c.args.s c.args.t) (sym read) (f.2 refl c.args.t c.requires.end) in
+    λ _. subst (Says ops net closures c.args.g c.args.s c.args.t) (sym c.found.ensures) (says_found ops net closures c.args.g c.args.s c.args.t c.index-table-t.result best)
