@@ -72,10 +72,15 @@ begins b bs h =
     let other : eqb b 10 ≡ false = ⊎_elim (λ (t : eqb b 10 ≡ true). absurd (false≢true (sym h ∙ ap (λ v. v && true) (eq-eqb 10 b (sym (eqb-true b 10 t)))))) (λ (f : eqb b 10 ≡ false). f) (cases_Bool (eqb b 10)) in
     ap (λ v. cond v 0 (suc (parting (eqb b 10) bs))) other ∙ ap suc (parting_at b bs)
 
-pub empty_at : (bs : List ℕ) (i : ℕ) → starts_with nat_eq bs (10 ∷ []) ≡ false → IsFirstPair bs (Some i) → i + 1 ≡ parting true bs
+empty_at : (bs : List ℕ) (i : ℕ) → starts_with nat_eq bs (10 ∷ []) ≡ false → IsFirstPair bs (Some i) → i + 1 ≡ parting true bs
 empty_at [] i h p = absurd (omega (arith, p.0))
 empty_at (b ∷ bs) i h p = let e = begins b bs h in let n = counted (b ∷ bs) (Some i) p in omega (arith, e, n)
 
-pub empty_nowhere : (bs : List ℕ) → starts_with nat_eq bs (10 ∷ []) ≡ false → IsFirstPair bs None → length bs ≡ parting true bs
+empty_nowhere : (bs : List ℕ) → starts_with nat_eq bs (10 ∷ []) ≡ false → IsFirstPair bs None → length bs ≡ parting true bs
 empty_nowhere [] h p = refl
 empty_nowhere (b ∷ bs) h p = let e = begins b bs h in let n = counted (b ∷ bs) None p in omega (arith, e, n, long b bs)
+
+-- the place after the pair that was found, or the end where none was
+pub empty_from : (bs : List ℕ) (o : Option ℕ) (r : ℕ) → starts_with nat_eq bs (10 ∷ []) ≡ false → IsFirstPair bs o → MatchOption o (r ≡ length bs) (λ i. r ≡ i + 1) → r ≡ parting true bs
+empty_from bs None r h p m = m ∙ empty_nowhere bs h p
+empty_from bs (Some i) r h p m = m ∙ empty_at bs i h p

@@ -3,6 +3,7 @@ ghost use Rattle.std.specs.Prelude.{◌≡◌, ◌+◌, true, take, drop};
 ghost use Rattle.dialogue.specs.Parts.{command_part, first_line, first_newline, after_line, list_part, parting};
 
 /// The place of the first newline, or the length where there is none.
+// Stays: this and `empty_line` give the length for none, so that the parts before and after a place are both there; an Option would be one case more.
 fn newline(bytes: &[u8]) -> usize
     ensures { result ≡ first_newline bytes.now }
 {
@@ -19,10 +20,10 @@ fn empty_line(input: &[u8]) -> usize
     if input.starts_with(b"\n") {
         return 0;
     }
-    match input.windows(2).position(|pair| pair == b"\n\n".as_slice()) {
-        Some(before) => before + 1,
-        None => input.len(),
-    }
+    input
+        .windows(2)
+        .position(|pair| pair == b"\n\n".as_slice())
+        .map_or(input.len(), |before| before + 1)
 }
 
 /// The first `i` bytes, and what stands after the byte at `i`.

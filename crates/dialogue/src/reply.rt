@@ -75,6 +75,7 @@ pub fn execute(network: &SealedList, command: Command) -> Result<Answer, Refusal
 {
     let closures = [0; 512];
     let mut table = [None; 64];
+    // Stays: a match on which command it is says what is called, and closures would be no plainer.
     match command {
         Command::Fastest { from, to, room } => {
             fastest(network, &closures, from, to, room, &mut table).map(Answer::Fastest)

@@ -1,6 +1,6 @@
 //! What a draft takes and refuses.
-use crate::given::outside;
-use network::{Charges, Draft, Line, Network, Refusal, Terms};
+use crate::given::{CHARGES, outside};
+use network::{Draft, Line, Network, Refusal, Terms};
 use std::process::Abort;
 use std::test::Fail;
 
@@ -11,11 +11,10 @@ const TOP: Terms = Terms {
     charges: CHARGES,
 };
 
-const CHARGES: Charges = Charges {
-    rate: 10_000,
-    class: 7,
-    jitter: 1_000,
-    loss: 1_000,
+/// The same, but a delay that is just out of range.
+const SLOW: Terms = Terms {
+    delay: 1_000_001,
+    ..TOP
 };
 
 fn line(from: u32, to: u32, terms: Terms) -> Line {
@@ -34,11 +33,7 @@ fn edge(rt: &impl Abort, draft: &mut Draft, inside: Terms, outside: Terms) {
 #[test]
 fn terms_at_their_edges(rt: HostRuntime) -> Result<(), Fail> {
     let mut draft = Draft::new(rt.alloc())?;
-    let slow = Terms {
-        delay: 1_000_001,
-        ..TOP
-    };
-    edge(&rt, &mut draft, TOP, slow);
+    edge(&rt, &mut draft, TOP, SLOW);
     let (least, none) = (Terms { room: 1, ..TOP }, Terms { room: 0, ..TOP });
     edge(&rt, &mut draft, least, none);
     edge(&rt, &mut draft, TOP, Terms { room: 1_001, ..TOP });
@@ -73,12 +68,8 @@ fn ends_at_their_edges(rt: HostRuntime) -> Result<(), Fail> {
     assert_eq!(rt; draft.add_line(line(1, 0, TOP)), Ok(()));
     assert_eq!(rt; draft.add_line(line(2, 0, TOP)), Err(Refusal::NoSuchEnd));
     assert_eq!(rt; draft.add_line(line(0, 2, TOP)), Err(Refusal::NoSuchEnd));
-    let slow = Terms {
-        delay: 1_000_001,
-        ..TOP
-    };
     assert_eq!(rt;
-        draft.add_line(line(0, 2, slow)),
+        draft.add_line(line(0, 2, SLOW)),
         Err(Refusal::OutOfRange),
         "4 is asked before 5"
     );

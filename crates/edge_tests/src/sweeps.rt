@@ -8,9 +8,7 @@ use sweep::{fastest, widest};
 fn ring_of_four() -> Result<Ring, Fail> {
     let charges = Charges {
         rate: 1,
-        class: 0,
-        jitter: 0,
-        loss: 0,
+        ..Charges::default()
     };
     let terms = Terms {
         delay: 5,

@@ -1,5 +1,5 @@
 //! Prices and settings of the tariffs.
-use crate::given::outside;
+use crate::given::{CHARGES, outside};
 use network::{Charges, Refusal};
 use std::process::Abort;
 use std::test::Fail;
@@ -7,10 +7,8 @@ use tariff::{Balanced, Period, Rate, Tariff};
 
 /// Each number at the top of its range, but class 6, since class 7 is free.
 const TOP: Charges = Charges {
-    rate: 10_000,
     class: 6,
-    jitter: 1_000,
-    loss: 1_000,
+    ..CHARGES
 };
 
 /// The price is 0 where one of the four numbers is above its range.

@@ -10,6 +10,7 @@ use crate::sealed::SealedList;
 use std::alloc::{AllocError, Global};
 
 /// A draft: a point count and lines, each in its range, with the memory for 512 lines reserved.
+// Stays: a point count is a plain number in every public call, so a type for 2 to 64 would be made and taken apart at each.
 #[derive(Drop)]
 pub struct Draft {
     pub(crate) points: u32,
@@ -129,7 +130,7 @@ impl Draft {
         ensures same { sealed_net result ≡ drawn self }
         ensures roomy { (k : ℕ) → k < length (sealed_net result).lines → 1 ≤ (line_at (sealed_net result) k).terms.room }
     {
-        SealedList::of(self)
+        SealedList { draft: self }
     }
 }
 

@@ -60,10 +60,7 @@ impl Terms {
     pub fn in_range(&self, least: u32) -> bool
         ensures { result ≡ in_range least self.now }
     {
-        self.delay <= 1_000_000
-            && least <= self.room
-            && self.room <= 1_000
-            && self.charges.in_range()
+        self.delay <= 1_000_000 && (least..=1_000).contains(&self.room) && self.charges.in_range()
     }
 }
 

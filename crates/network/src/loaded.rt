@@ -9,6 +9,7 @@ use crate::line::Line;
 /// A loaded network, the residual network under some loads: the one below it, with each line's room lowered by the
 /// line's load and never below 0. A line past the end of the table has no load.
 #[derive(Drop)]
+// Stays: it is a rule of the project that the loads are a table beside the lines, which may have any length.
 pub struct Loaded<'n, 'l, N> {
     under: &'n N,
     loads: &'l [u32],

@@ -31,13 +31,6 @@ impl Ring {
         Ok(Ring { points, terms })
     }
 
-    /// Two lines for each point.
-    fn count(&self) -> u32
-        ensures { result ≡ 2 * self.now.points }
-    {
-        2 * self.points
-    }
-
     /// Line k, of which there are twice as many as points: first those that lead on, then those that lead back.
     fn worked_out(&self, k: u32) -> Line
         requires { k < 2 * self.now.points }
@@ -70,12 +63,12 @@ impl Network for Ring {
 
     #[tactic(auto, using(crate::proofs::Worked::ring_count))]
     fn line_count(&self) -> u32 {
-        self.count()
+        2 * self.points
     }
 
-    #[tactic(auto, using(crate::proofs::Worked::ring_at, crate::proofs::Worked::ring_past))]
+    #[tactic(auto, using(crate::proofs::Worked::ring_at, crate::proofs::Worked::ring_past, crate::proofs::Worked::ring_count))]
     fn line(&self, k: u32) -> Line {
-        if k < self.count() {
+        if k < self.line_count() {
             self.worked_out(k)
         } else {
             Line::none()

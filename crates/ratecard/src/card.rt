@@ -50,6 +50,7 @@ fn card_weight(period: u32, class: u32) -> u32
 /// The period tariff with the card's weights, in a period.
 fn in_period(period: u32) -> Result<Period, Refusal> {
     let mut tariff = Period::new();
+    // Stays: a weight is set by the numbers of its period and class, so the loops go over the numbers.
     for row in 0..4 {
         for class in 0..8 {
             tariff.set_weight(row, class, card_weight(row, class))?;
@@ -68,7 +69,7 @@ fn prices_in(periods: [Period; 4], charges: Charges) -> [u32; 4]
 
 impl Tariffs {
     pub(crate) fn new() -> Result<Tariffs, Refusal> {
-        let periods = [in_period(0)?, in_period(1)?, in_period(2)?, in_period(3)?];
+        let periods = [0, 1, 2, 3].try_map(in_period)?;
         let balanced = Balanced::new(10, 4)?;
         Ok(Tariffs {
             rate: Rate,
@@ -94,6 +95,7 @@ impl Tariffs {
 pub(crate) fn print_weights(rt: &impl Print) -> io::Result<()> {
     println!(rt; "Weights of the period tariff, by period and class")?;
     println!(rt; "period  c0  c1  c2  c3  c4  c5  c6  c7")?;
+    // Stays: a weight is told by the numbers of its period and class, so the loops go over the numbers.
     for period in 0..4 {
         print!(rt; "{period:>6}")?;
         for class in 0..8 {
@@ -114,7 +116,7 @@ pub(crate) fn print_lines<N: Network>(
     println!(rt;
         "line from   to    delay   rate class  room jitter  loss |    Rate      P0      P1      P2      P3 Balanced"
     )?;
-    // Stays: a network is asked for a line by its number, which is printed too; an iterator over lines would be one type more.
+    // Stays: a network is asked for a line by its number, which is printed too, so the loop goes over the numbers.
     for k in 0..network.line_count() {
         let line = network.line(k);
         let prices = tariffs.prices(line.terms.charges);
@@ -124,6 +126,7 @@ pub(crate) fn print_lines<N: Network>(
     Ok(())
 }
 
+// Stays: a line is another crate's type and does not know its number, so a type of its own would be made for this alone.
 fn print_line(rt: &impl Print, k: u32, line: Line) -> io::Result<()> {
     let Line { from, to, terms } = line;
     let Charges {

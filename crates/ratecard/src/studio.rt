@@ -18,6 +18,7 @@ const LINES: [[u32; 8]; 6] = [
 const EXTRA: [u32; 8] = [1, 4, 900, 25, 1, 3, 2, 2];
 
 /// The line with these numbers.
+// Stays: `From` has to stand beside one of its types, and neither is of this program.
 fn line_of(numbers: [u32; 8]) -> Line {
     let [from, to, delay, rate, class, room, jitter, loss] = numbers;
     let charges = Charges {

@@ -34,6 +34,7 @@ impl<'a> Iterator for Dialogues<'a> {
 }
 
 /// The number that a line of digits writes.
+// Stays: the reader of texts takes at most ten digits, and is visible in its crate alone; a length here may have any, and saturates.
 fn size(line: &[u8]) -> usize {
     line.iter().fold(0usize, |value, b| {
         value

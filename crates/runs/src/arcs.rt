@@ -26,6 +26,7 @@ impl Arcs {
     ghost use Rattle.runs.specs.Held.{graph};
 
     /// The arcs of a network under these closures, for `g` channels; 16 if there are fewer closure bytes than lines.
+    // Stays: it is a rule of the project that a closure list has a byte for each line, 0 for open.
     pub fn new<N: Network>(network: &N, closures: &[u8], g: u32) -> Result<Arcs, Refusal>
         ensures { with_value graph (numbered result) ≡ judged (closure_question (N.Network.net network.now) (length closures.now)) (graph_of (N.Network.net network.now) closures.now g) }
     {
@@ -71,6 +72,7 @@ impl Arcs {
     }
 
     /// Arc k, or all zeros and not open where there is none.
+    // Stays: an arc past the last is all zeros, as a network's line is, so that no question refuses.
     pub fn arc(&self, k: u32) -> Arc
         ensures { result ≡ arc_at (graph self.now) k }
     {
@@ -85,6 +87,7 @@ impl Arcs {
     }
 
     /// Whether arc k is open, for each k below 512; not where there is no arc.
+    // Stays: which arcs a sweep may use is said anew for each sweep, so marks lie beside the arcs.
     pub fn open_marks(&self) -> [bool; 512]
         ensures { result ≡ open_marks (graph self.now) }
     {

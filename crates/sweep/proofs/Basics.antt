@@ -1,16 +1,10 @@
 -- Order and runs, and how many points are left.
-use Rattle.std.proofs.Common.{◌≡◌, ℕ, zero, suc, ◌+◌, ◌<◌, Bool, true, false, List, [], ◌∷◌, ◌++◌, length, get_or, set, Some, None, Option, sym, refl, ◌∙◌, subst, ⊎_elim, add-zero, arith}
+use Rattle.std.proofs.Common.{◌≡◌, ℕ, zero, suc, ◌+◌, ◌<◌, Bool, true, false, List, [], ◌∷◌, ◌++◌, length, get_or, set, sym, refl, ◌∙◌, subst, ⊎_elim, add-zero, arith}
 use Rattle.std.proofs.lemmas.Bool.{cases_Bool, both_ways}
 use Rattle.runs.specs.declared.arc.Arc.{Arc}
 use Rattle.sweep.specs.Laws.{Ops, Laws, Ranged}
 use Rattle.runs.specs.Runs.{Run, value}
 use Rattle.sweep.specs.Front.{left}
-
-pub same_some : {V : Type 0} (o : Option V) (x y : V) → o ≡ Some x → o ≡ Some y → x ≡ y
-same_some o x y p q = cc
-
-pub never : {V : Type 0} {A : Type 0} (o : Option V) (x : V) → o ≡ None → o ≡ Some x → A
-never o x p q = let z : ◌≡◌ {A = ℕ} 0 1 = cc in absurd (omega arith)
 
 -- one more point is done
 pub left_set : (ds : List Bool) (u : ℕ) → u < length ds → get_or ds u false ≡ false → left (set ds u true) + 1 ≡ left ds

@@ -5,7 +5,7 @@ use Rattle.network.specs.Net.{Net}
 use Rattle.network.specs.Refusals.{judged, left_by}
 use Rattle.runs.specs.Graphs.{Graph, arc_at, seen_at, graph_of, open_marks}
 use Rattle.sweep.specs.Laws.{Ops}
-use Rattle.sweep.specs.Best.{Allowed, BestAt}
+use Rattle.sweep.specs.Best.{Allowed, BestAt, HoldsBest}
 use Rattle.sweep.specs.Values.{sweep_questions, swept_table, place_questions, table_after, or_no_run, OpenLine, Says}
 use Rattle.sweep.proofs.Opened.{open_best}
 
@@ -14,14 +14,14 @@ abbrev pub Swept : {V : Type 0} → Ops V → ℕ → List (Option V) → List (
 Swept ops s was table r graph marks =
     (r ≡ judged (sweep_questions graph s (length was)) tt)
     × (table ≡ left_by was (judged (sweep_questions graph s (length was)) (swept_table ops graph marks s was)))
-    × (r ≡ Ok tt → (v : ℕ) → v < graph.points → BestAt ops (arc_at graph) (Allowed graph marks) s v (get_or table v None))
+    × (r ≡ Ok tt → HoldsBest ops (arc_at graph) (Allowed graph marks) graph.points s table)
 
 -- the same of a network, its closures and g channels
 abbrev pub Filled : {V : Type 0} → Ops V → ℕ → List (Option V) → List (Option V) → Result (Unit {0}) ℕ → Net → List ℕ → ℕ → Type 0
 Filled ops s was table r net closures g =
     (r ≡ judged (place_questions net closures (length was)) tt)
     × (table ≡ table_after ops (place_questions net closures (length was)) net closures g s was)
-    × (r ≡ Ok tt → (v : ℕ) → v < net.points → BestAt ops (seen_at net closures g) (OpenLine net closures g) s v (get_or table v None))
+    × (r ≡ Ok tt → HoldsBest ops (seen_at net closures g) (OpenLine net closures g) net.points s table)
 
 module _ {V : Type 0} (ops : Ops V) (net : Net) (closures : List ℕ) (g s : ℕ) (sn : s < net.points) (few : length net.lines ≤ 512) (bytes : leb (length net.lines) (length closures) ≡ true) where
   same_questions : {A : Type 0} (places : ℕ) (a : A) → judged (sweep_questions (graph_of net closures g) s places) a ≡ judged (place_questions net closures places) a

@@ -5,9 +5,9 @@ use Rattle.std.proofs.lemmas.List.{get_or-set_same, get_or-set_other, set-get_or
 use Rattle.runs.specs.declared.arc.Arc.{Arc}
 use Rattle.sweep.specs.Laws.{Ops, Laws}
 use Rattle.runs.specs.Runs.{Run, value}
-use Rattle.sweep.specs.Best.{BestAt}
+use Rattle.sweep.specs.Best.{BestAt, HoldsBest}
 use Rattle.sweep.specs.Front.{Front, Made, Picked, kept, left}
-use Rattle.sweep.proofs.Basics.{never, same_some, le_same, left_set, run_push, value_push}
+use Rattle.sweep.proofs.Basics.{le_same, left_set, run_push, value_push}
 
 -- arc j, from a point of value y, is worked in
 abbrev In : {V : Type 0} → Ops V → (ℕ → Arc) → List (Option V) → V → ℕ → Type 0
@@ -40,7 +40,7 @@ module _ {V : Type 0} {ops : Ops V} {fits : ℕ → V → Type 0} {clip : V → 
     closed = λ j y o d h e. ⊎_elim
         (λ jk.
         let e' : get_or best u None ≡ Some y = subst (λ (i : ℕ). get_or best i None ≡ Some y) (ap (λ (i : ℕ). (arc i).from) jk ∙ fu) e in
-        let xy : x ≡ y = same_some (get_or best u None) x y here e' in
+        let xy : x ≡ y = cc in
         subst (In ops arc best y) (sym jk) (z, at, subst (λ (t : V). ops.le z (ops.ext t (arc k)) ≡ true) xy l))
         (λ ne. f.closed j y o d (λ fu'. below_but j k (h fu') ne) e)
         (cases_eq j k);
@@ -70,7 +70,7 @@ module _ {V : Type 0} {ops : Ops V} {fits : ℕ → V → Type 0} {clip : V → 
           let e' : get_or best (arc j).from None ≡ Some y = sym (other (arc j).from (apart (arc j).from d)) ∙ e in
           ⊎_elim
           (λ jk.
-          let x_is : x ≡ y = same_some (get_or best u None) x y here (subst (λ (i : ℕ). get_or best i None ≡ Some y) (ap (λ (i : ℕ). (arc i).from) jk ∙ fu) e') in
+          let x_is : x ≡ y = cc (subst (λ (i : ℕ). get_or best i None ≡ Some y) (ap (λ (i : ℕ). (arc i).from) jk ∙ fu) e') in
           subst (In ops arc best' y) (sym jk) (y₀, subst (λ (i : ℕ). get_or best' i None ≡ Some y₀) (sym tw) same, subst (λ (t : V). ops.le y₀ t ≡ true) (sym xy ∙ ap (λ (t : V). ops.ext t (arc k)) x_is) (le_same laws y₀)))
           (λ ne.
           let z = f.closed j y o' d (λ fu'. below_but j k (h fu') ne) e' in
@@ -87,7 +87,7 @@ module _ {V : Type 0} {ops : Ops V} {fits : ℕ → V → Type 0} {clip : V → 
 
       got : (v : ℕ) (y : V) → get_or best' v None ≡ Some y → ((v ≡ w) × (y ≡ y₀)) ⊎ (get_or best v None ≡ Some y)
       got v y e = ⊎_elim
-          (λ vw. inl (vw, same_some (get_or best' v None) y y₀ e (subst (λ (i : ℕ). get_or best' i None ≡ Some y₀) (sym vw) same)))
+          (λ vw. inl (vw, (cc (subst (λ (i : ℕ). get_or best' i None ≡ Some y₀) (sym vw) same))))
           (λ ne. inr (sym (other v ne) ∙ e))
           (cases_eq v w)
 
@@ -116,13 +116,13 @@ module _ {V : Type 0} {ops : Ops V} {fits : ℕ → V → Type 0} {clip : V → 
       tested : (z : V) (t : Bool) → get_or best (arc k).to None ≡ Some z → ops.le z (ops.ext x (arc k)) ≡ t → After (set best (arc k).to (cond t (Some z) (Some (ops.ext x (arc k)))))
       tested z true e l = subst After (sym (ap (set best (arc k).to) (sym e) ∙ set-get_or best (arc k).to None)) (keep_step done u k x z best fu f.1 e l f.0, f.1)
       tested z false e l = written
-          (⊎_elim (λ d. let q = f.0.low (arc k).to d in absurd (both_ways (ops.le z (ops.ext x (arc k))) l (laws.trans z x (ops.ext x (arc k)) (subst (λ (t : V). ops.le t x ≡ true) (same_some (get_or best (arc k).to None) q.0 z q.1 e) q.2) (laws.worse x (arc k))))) (λ d. d) (cases_Bool (get_or done (arc k).to false)))
-          (λ z' e'. subst (λ (t : V). ops.le (ops.ext x (arc k)) t ≡ true) (same_some (get_or best (arc k).to None) z z' e e') (laws.total z (ops.ext x (arc k)) l))
+          (⊎_elim (λ d. let q = f.0.low (arc k).to d in absurd (both_ways (ops.le z (ops.ext x (arc k))) l (laws.trans z x (ops.ext x (arc k)) (subst (λ (t : V). ops.le t x ≡ true) (cc q.1) q.2) (laws.worse x (arc k))))) (λ d. d) (cases_Bool (get_or done (arc k).to false)))
+          (λ z' e'. subst (λ (t : V). ops.le (ops.ext x (arc k)) t ≡ true) (cc) (laws.total z (ops.ext x (arc k)) l))
 
       go : (old : Option V) → get_or best (arc k).to None ≡ old → After (set best (arc k).to (kept ops.le old (ops.ext x (arc k))))
       go None e = written
-          (⊎_elim (λ d. let q = f.0.low (arc k).to d in never (get_or best (arc k).to None) q.0 e q.1) (λ d. d) (cases_Bool (get_or done (arc k).to false)))
-          (λ z e'. never (get_or best (arc k).to None) z e e')
+          (⊎_elim (λ d. let q = f.0.low (arc k).to d in cc q.1) (λ d. d) (cases_Bool (get_or done (arc k).to false)))
+          (λ z e'. cc)
       go (Some z) e = tested z (ops.le z (ops.ext x (arc k))) e refl
 
   -- point p .0 is picked: it is done from now on, and its arcs are yet to be worked in
@@ -163,7 +163,7 @@ module _ {V : Type 0} {ops : Ops V} {fits : ℕ → V → Type 0} {clip : V → 
   -- no point is left to pick
   module _ (done : List Bool) (u k : ℕ) (x : V) (best : List (Option V)) (all : (j : ℕ) → usable j → j < k) (ends : (j : ℕ) → usable j → (arc j).from < n) (h : Picked ops.le n done best None) (f : Front ops arc usable n s done u k x best) where
     worked_in : (j : ℕ) (y : V) → usable j → get_or best (arc j).from None ≡ Some y → In ops arc best y j
-    worked_in j y o e = ⊎_elim (λ d. f.closed j y o d (λ _. all j o) e) (λ d. never (get_or best (arc j).from None) y (h (arc j).from (ends j o) d) e) (cases_Bool (get_or done (arc j).from false))
+    worked_in j y o e = ⊎_elim (λ d. f.closed j y o d (λ _. all j o) e) (λ d. cc (h (arc j).from (ends j o) d)) (cases_Bool (get_or done (arc j).from false))
 
     -- each run is no better than the value at its end
     no_better : (ks : List ℕ) (a v : ℕ) (z y : V) → get_or best a None ≡ Some z → ops.le z y ≡ true → Run arc usable a ks v → (q : V) × (get_or best v None ≡ Some q) × (ops.le q (value ops.ext arc y ks) ≡ true)
@@ -176,27 +176,27 @@ module _ {V : Type 0} {ops : Ops V} {fits : ℕ → V → Type 0} {clip : V → 
     pub short : (v : ℕ) → v < n → (y : V) → get_or best v None ≡ Some y → Made ops arc usable s 0 v y
     short v vn y e = let m = f.made v y vn e in (m.0, m.1, m.2, omega (arith, m.3))
 
-    pub swept : (v : ℕ) → v < n → BestAt ops arc usable s v (get_or best v None)
+    pub swept : HoldsBest ops arc usable n s best
     swept v vn = go (get_or best v None) refl
       where
         go : (b : Option V) → get_or best v None ≡ b → BestAt ops arc usable s v b
-        go None e = λ ks r. let q = no_better ks s v f.begun.0 ops.begin f.begun.1 f.begun.2 r in never (get_or best v None) q.0 e q.1
+        go None e = λ ks r. let q = no_better ks s v f.begun.0 ops.begin f.begun.1 f.begun.2 r in cc q.1
         go (Some y) e =
             let m = f.made v y vn e in
-            ((m.0, m.1, m.2), λ ks r. let q = no_better ks s v f.begun.0 ops.begin f.begun.1 f.begun.2 r in subst (λ (t : V). ops.le t (value ops.ext arc ops.begin ks) ≡ true) (same_some (get_or best v None) q.0 y q.1 e) q.2)
+            ((m.0, m.1, m.2), λ ks r. let q = no_better ks s v f.begun.0 ops.begin f.begun.1 f.begun.2 r in subst (λ (t : V). ops.le t (value ops.ext arc ops.begin ks) ≡ true) (cc q.1) q.2)
 
   -- nothing is done yet
   pub begin_step : (done : List Bool) (k : ℕ) (best : List (Option V)) → left done ≤ 64 → ((a : ℕ) → get_or done a false ≡ false) → get_or best s None ≡ Some ops.begin → ((v : ℕ) → v < n → (v ≡ s → ⊥) → get_or best v None ≡ None) → Front ops arc usable n s done 0 k ops.begin best
   begin_step done k best few none_done at others = record {
-    made = λ v y vn e. ⊎_elim (λ vs. ([], sym vs, is v y vs e, omega (arith, few))) (λ ne. never (get_or best v None) y (others v vn ne) e) (cases_eq v s);
+    made = λ v y vn e. ⊎_elim (λ vs. ([], sym vs, is v y vs e, omega (arith, few))) (λ ne. cc (others v vn ne)) (cases_eq v s);
     low = λ a d. absurd (both_ways (get_or done a false) (none_done a) d);
-    high = λ b y bn d e. ⊎_elim (λ bs. subst (λ (t : V). ops.le ops.begin t ≡ true) (is b y bs e) (le_same laws ops.begin)) (λ ne. never (get_or best b None) y (others b bn ne) e) (cases_eq b s);
+    high = λ b y bn d e. ⊎_elim (λ bs. subst (λ (t : V). ops.le ops.begin t ≡ true) (is b y bs e) (le_same laws ops.begin)) (λ ne. cc (others b bn ne)) (cases_eq b s);
     closed = λ j y o d c e. absurd (both_ways (get_or done (arc j).from false) (none_done (arc j).from) d);
     begun = (ops.begin, at, le_same laws ops.begin);
   }
     where
       is : (v : ℕ) (y : V) → v ≡ s → get_or best v None ≡ Some y → ops.begin ≡ y
-      is v y vs e = same_some (get_or best s None) ops.begin y at (subst (λ (i : ℕ). get_or best i None ≡ Some y) vs e)
+      is v y vs e = cc (subst (λ (i : ℕ). get_or best i None ≡ Some y) vs e)
 
 -- there is one best value
 pub best_unique : {V : Type 0} {ops : Ops V} {fits : ℕ → V → Type 0} {clip : V → V} (laws : Laws ops fits clip) (arc : ℕ → Arc) (usable : ℕ → Type 0) (s v : ℕ) (a b : Option V) → BestAt ops arc usable s v a → BestAt ops arc usable s v b → a ≡ b

@@ -1,5 +1,4 @@
 pub mod Basics
-pub mod Numbered
 pub mod Picks
 pub mod Fronts
 pub mod Turns

@@ -7,9 +7,9 @@ use Rattle.runs.specs.declared.arc.Arc.{Arc}
 use Rattle.runs.specs.Graphs.{Graph, Sound, no_arc, arc_at}
 use Rattle.runs.specs.Runs.{Run, value}
 use Rattle.sweep.specs.Laws.{Ops, Laws}
-use Rattle.sweep.specs.Best.{Allowed, BestAt, through, better_of, reached, round, rounds, start_table, best_table}
+use Rattle.sweep.specs.Best.{Allowed, BestAt, HoldsBest, through, better_of, reached, round, rounds, start_table, best_table}
 use Rattle.sweep.specs.Front.{Made}
-use Rattle.sweep.proofs.Basics.{never, same_some, le_same, run_push, value_push}
+use Rattle.sweep.proofs.Basics.{le_same, run_push, value_push}
 
 -- o holds a value that is no worse than y
 abbrev pub NoWorse : {V : Type 0} → Ops V → Option V → V → Type 0
@@ -49,16 +49,16 @@ module _ {V : Type 0} {ops : Ops V} {fits : ℕ → V → Type 0} {clip : V → 
   no_worse_same o x e = (x, e, le_same laws x)
 
   better_left : (o p : Option V) (y : V) → NoWorse ops o y → NoWorse ops (better_of ops o p) y
-  better_left None p y h = never None h.0 refl h.1
+  better_left None p y h = cc h.1
   better_left (Some x) None y h = h
   better_left (Some x) (Some z) y h = cond_both (ops.le x z) (Some x) (Some z) (λ o. NoWorse ops o y) (λ _. h)
-      (λ f. (z, refl, laws.trans z h.0 y (subst (λ (t : V). ops.le z t ≡ true) (same_some (Some x) x h.0 refl h.1) (laws.total x z f)) h.2))
+      (λ f. (z, refl, laws.trans z h.0 y (subst (λ (t : V). ops.le z t ≡ true) (cc h.1) (laws.total x z f)) h.2))
 
   better_right : (o p : Option V) (y : V) → NoWorse ops p y → NoWorse ops (better_of ops o p) y
   better_right None p y h = h
-  better_right (Some x) None y h = never None h.0 refl h.1
+  better_right (Some x) None y h = cc h.1
   better_right (Some x) (Some z) y h = cond_both (ops.le x z) (Some x) (Some z) (λ o. NoWorse ops o y)
-      (λ t. (x, refl, laws.trans x h.0 y (subst (λ (w : V). ops.le x w ≡ true) (same_some (Some z) z h.0 refl h.1) t) h.2))
+      (λ t. (x, refl, laws.trans x h.0 y (subst (λ (w : V). ops.le x w ≡ true) (cc h.1) t) h.2))
       (λ _. h)
 
   module _ (old : List (Option V)) (v : ℕ) (y : V) where
@@ -85,8 +85,8 @@ module _ {V : Type 0} {ops : Ops V} {fits : ℕ → V → Type 0} {clip : V → 
   through_more o a y h = (ops.ext h.0 a, ap (λ (p : Option V). through ops p a) h.1, laws.mono h.0 y a h.2)
 
   through_some : (o : Option V) (a : Arc) (x : V) → through ops o a ≡ Some x → (z : V) × (o ≡ Some z) × (ops.ext z a ≡ x)
-  through_some None a x e = never None x refl e
-  through_some (Some z) a x e = (z, refl, same_some (Some (ops.ext z a)) (ops.ext z a) x refl e)
+  through_some None a x e = cc
+  through_some (Some z) a x e = (z, refl, cc)
 
   module _ (graph : Graph) (marks : List Bool) (sound : Sound graph) where
     round_at : (t : List (Option V)) (v : ℕ) → v < graph.points → get_or (round ops graph marks t) v None ≡ reached ops t v graph.arcs marks (get_or t v None)
@@ -121,7 +121,7 @@ module _ {V : Type 0} {ops : Ops V} {fits : ℕ → V → Type 0} {clip : V → 
           (λ (lt : v < graph.points). subst (OfRun v) (sym (round_at t v lt)) (reached_one ops t v (OfRun v) graph.arcs marks (get_or t v None) (h v) (brought t h v)))
           (λ (le : graph.points ≤ v) x e.
           let len = length-map-range_with_len (λ w. reached ops t w graph.arcs marks (get_or t w None)) 0 graph.points in
-          never (get_or (round ops graph marks t) v None) x (get_or_past (round ops graph marks t) v None (omega arith)) e)
+          cc (get_or_past (round ops graph marks t) v None (omega arith)))
           (cases_lt v graph.points)
         where
           brought : (t : List (Option V)) → ((v : ℕ) → OfRun v (get_or t v None)) → (v k : ℕ) → k < length graph.arcs → get_or marks k false ≡ true → (arc_at graph k).to ≡ v → OfRun v (through ops (get_or t (arc_at graph k).from None) (arc_at graph k))
@@ -144,11 +144,11 @@ module _ {V : Type 0} {ops : Ops V} {fits : ℕ → V → Type 0} {clip : V → 
       start_of_runs : (v : ℕ) → OfRun v (get_or (start_table ops graph.points s) v None)
       start_of_runs v = ⊎_elim
           (λ (lt : v < graph.points). subst (OfRun v) (sym (start_at v lt)) (cond_both (eqb v s) (Some ops.begin) None (OfRun v)
-          (λ t x e. ([], sym (eqb-true v s t), same_some (Some ops.begin) ops.begin x refl e))
-          (λ _ x e. never None x refl e)))
+          (λ t x e. ([], sym (eqb-true v s t), cc))
+          (λ _ x e. cc)))
           (λ (le : graph.points ≤ v) x e.
           let len = length-map-range_with_len (λ w. cond (eqb w s) (Some ops.begin) None) 0 graph.points in
-          never (get_or (start_table ops graph.points s) v None) x (get_or_past (start_table ops graph.points s) v None (omega arith)) e)
+          cc (get_or_past (start_table ops graph.points s) v None (omega arith)))
           (cases_lt v graph.points)
 
       -- a value in the best table is that of a run
@@ -180,7 +180,7 @@ module _ {V : Type 0} {ops : Ops V} {fits : ℕ → V → Type 0} {clip : V → 
 
       -- a table that is best at each point, by runs of at most 64 arcs
       pub same_table : s < graph.points → (now : List (Option V)) → length now ≡ graph.points
-          → ((v : ℕ) → v < graph.points → BestAt ops (arc_at graph) (Allowed graph marks) s v (get_or now v None))
+          → HoldsBest ops (arc_at graph) (Allowed graph marks) graph.points s now
           → ((v : ℕ) → v < graph.points → (y : V) → get_or now v None ≡ Some y → Made ops (arc_at graph) (Allowed graph marks) s 0 v y)
           → now ≡ best_table ops graph marks s
       same_table sn now long best short = ext_get_or None now (best_table ops graph marks s) (long ∙ sym (table_length ops graph marks s))

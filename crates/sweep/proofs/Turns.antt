@@ -30,17 +30,10 @@ pub record Turn (arcs : Graph) (marks : List Bool) (n : ℕ) (arc : Arc) (mark :
   pub ranged : Ranged arc
 
 -- a loop over the arcs of a table beside marks, which has yielded xs
-module _ (a : Arcs) (marks : List Bool) (xs : List (Bor Arc × Bor Bool)) (s t u : Zip (Iter Arc) (Iter Bool)) (r : Option (Bor Arc × Bor Bool)) {i : Iter Arc} {z : Zip (Iter Arc) (Iter Bool)}
-    (made : s ≡ z) (first : zip_first z ≡ i) (left : iter_rest i ≡ (graph a).arcs) (right : iter_rest (zip_second z) ≡ marks) (y : Yields (zips fronts fronts) s xs t) where
-  from_left : iter_rest (zip_first s) ≡ (graph a).arcs
-  from_left = ap (λ w. iter_rest (zip_first w)) made ∙ ap iter_rest first ∙ left
-
-  from_right : iter_rest (zip_second s) ≡ marks
-  from_right = ap (λ w. iter_rest (zip_second w)) made ∙ right
-
+module _ (a : Arcs) (marks : List Bool) (xs : List (Bor Arc × Bor Bool)) (s t u : Zip (Iter Arc) (Iter Bool)) (r : Option (Bor Arc × Bor Bool)) (left : iter_rest (zip_first s) ≡ (graph a).arcs) (right : iter_rest (zip_second s) ≡ marks) (y : Yields (zips fronts fronts) s xs t) where
   pub turn_of : (p : Bor Arc × Bor Bool) → r ≡ Some p → zips fronts fronts t r u → Turn (graph a) marks (length xs) p.0.now p.1.now
   turn_of p e h =
-      let q = zip_turn (graph a).arcs marks xs s t u r from_left from_right y p e h in
+      let q = zip_turn (graph a).arcs marks xs s t u r left right y p e h in
       let good = sound a in
       let back = sym (q.2 no_arc) in record {
         within = q.0;
@@ -53,7 +46,7 @@ module _ (a : Arcs) (marks : List Bool) (xs : List (Bor Arc × Bor Bool)) (s t u
   -- no arc that may be used is left
   pub all_turned : r ≡ None → zips fronts fronts t r u → (j : ℕ) → Allowed (graph a) marks j → j < length xs
   all_turned e h j o =
-      let end = zip_end (graph a).arcs marks xs s t u r from_left from_right y e h in
+      let end = zip_end (graph a).arcs marks xs s t u r left right y e h in
       ⊎_elim
       (λ (lt : j < length marks). omega (arith, o.0))
       (λ (le : length marks ≤ j). absurd (both_ways (get_or marks j false) (get_or_past marks j false le) o.1))

@@ -15,6 +15,10 @@ abbrev pub BestAt : {V : Type 0} → Ops V → (ℕ → Arc) → (ℕ → Type 0
 BestAt ops arc usable s v None = (ks : List ℕ) → Run arc usable s ks v → ⊥
 BestAt ops arc usable s v (Some x) = ((ks : List ℕ) × Run arc usable s ks v × (value ops.ext arc ops.begin ks ≡ x)) × ((ks : List ℕ) → Run arc usable s ks v → ops.le x (value ops.ext arc ops.begin ks) ≡ true)
 
+-- For each point below n, the table has at its place the best value over all runs of usable arcs from s to it, or none where there is no run.
+abbrev pub HoldsBest : {V : Type 0} → Ops V → (ℕ → Arc) → (ℕ → Type 0) → ℕ → ℕ → List (Option V) → Type 0
+HoldsBest ops arc usable n s table = (v : ℕ) → v < n → BestAt ops arc usable s v (slice_index_or table v None)
+
 -- A value with one arc more, or none.
 abbrev pub through : {V : Type 0} → Ops V → Option V → Arc → Option V
 through ops None a = None

@@ -26,6 +26,7 @@ pub trait Grading {
         ensures { result ≡ clip (ops.ext x arc) };
 
     /// Whether x is no worse than y.
+    // Stays: both gradings have values of one machine type, with opposite orders, so the order is the grading's and not an `Ord` of the value.
     fn no_worse(x: Self::Value, y: Self::Value) -> bool
         ensures { result ≡ ops.le x y };
 

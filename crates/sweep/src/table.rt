@@ -4,7 +4,7 @@ ghost use Rattle.std.specs.Prelude.{◌≡◌, ◌==◌, ℕ, ◌<◌, ◌≤◌
 ghost use Rattle.network.specs.Refusals.{numbered, judged, left_by};
 ghost use Rattle.runs.specs.Graphs.{arc_at};
 ghost use Rattle.runs.specs.Held.{graph};
-ghost use Rattle.sweep.specs.Best.{Allowed, BestAt};
+ghost use Rattle.sweep.specs.Best.{Allowed, HoldsBest};
 ghost use Rattle.sweep.specs.Front.{Keeps, Made, Picked, better, kept};
 ghost use Rattle.sweep.specs.Values.{sweep_questions, swept_table};
 
@@ -23,7 +23,7 @@ pub fn sweep<G: Grading>(
 ) -> Result<(), Refusal>
     ensures answer { numbered result ≡ judged (sweep_questions (graph arcs.now) s (length best.old)) tt }
     ensures table { best.new ≡ left_by best.old (judged (sweep_questions (graph arcs.now) s (length best.old)) (swept_table G.Grading.ops (graph arcs.now) allowed.now s best.old)) }
-    ensures best { numbered result ≡ Ok tt → (v : ℕ) → v < (graph arcs.now).points → BestAt G.Grading.ops (arc_at (graph arcs.now)) (Allowed (graph arcs.now) allowed.now) s v (slice_index_or best.new v None) }
+    ensures best { numbered result ≡ Ok tt → HoldsBest G.Grading.ops (arc_at (graph arcs.now)) (Allowed (graph arcs.now) allowed.now) (graph arcs.now).points s best.new }
 {
     judge_sweep(arcs, s, best.len())?;
     let n = arcs.points() as usize;
@@ -54,7 +54,7 @@ fn offer<G: Grading>(place: &mut Option<G::Value>, y: G::Value)
 }
 
 /// The better of the two, the old one where they tie.
-// Stays: to be one function with `offer` it would take the order as a closure, and its contract would speak of calls of that closure.
+// Stays: `offer` keeps a value at a place and this a point with its value; as one function they would take the order as a closure.
 fn first<G: Grading>(found: Option<(usize, G::Value)>, v: usize, x: G::Value) -> (usize, G::Value)
     ensures { result ≡ better G.Grading.ops.le found v x }
 {
@@ -115,11 +115,11 @@ fn relax<G: Grading>(
 }
 
 /// Writes for each point the best value over all runs of allowed arcs from s to it, or none.
-// Stays: `relax` and this take what `sweep` is handed; a struct of it would hold the lent table, and each contract would need a clause on that loan.
+// Stays: arcs and marks are the public parameters of `sweep`, and a pair of them would be made there and taken apart in `relax`; the table is lent and stays a slice.
 fn settle<G: Grading>(arcs: &Arcs, allowed: &[bool], s: usize, best: &mut [Option<G::Value>])
     requires start { s < (graph arcs.now).points }
     requires table { length best.old ≡ (graph arcs.now).points }
-    ensures best { (v : ℕ) → v < (graph arcs.now).points → BestAt G.Grading.ops (arc_at (graph arcs.now)) (Allowed (graph arcs.now) allowed.now) s v (slice_index_or best.new v None) }
+    ensures best { HoldsBest G.Grading.ops (arc_at (graph arcs.now)) (Allowed (graph arcs.now) allowed.now) (graph arcs.now).points s best.new }
     ensures short { (v : ℕ) → v < (graph arcs.now).points → (y : _) → slice_index_or best.new v None ≡ Some y → Made G.Grading.ops (arc_at (graph arcs.now)) (Allowed (graph arcs.now) allowed.now) s 0 v y }
 {
     begin::<G>(s, best);

@@ -2,7 +2,7 @@
 ghost use Rattle.std.specs.Prelude.{◌≡◌, ℕ, ◌<◌, true, length, None, Ok, slice_index_or};
 ghost use Rattle.network.specs.Refusals.{numbered, judged};
 ghost use Rattle.runs.specs.Graphs.{seen_at};
-ghost use Rattle.sweep.specs.Best.{BestAt};
+ghost use Rattle.sweep.specs.Best.{HoldsBest};
 ghost use Rattle.sweep.specs.Laws.{delay_ops, room_ops};
 ghost use Rattle.sweep.specs.Values.{end_questions, channel_question, place_questions, fastest_questions, widest_questions, all_yes, open_table, table_after, or_no_run, fastest_of, widest_of, OpenLine, Says};
 
@@ -76,7 +76,7 @@ fn judge_channels(g: u32) -> Result<(), Refusal>
 }
 
 /// The best value from s to t over lines open for g channels: 16, 17, and 20 if there is no run.
-// Stays: no other private function takes a network with its closures and channels, so a struct of them would be made and taken apart at once.
+// Stays: s and t are parameters of the public calls, and no other private function takes a network with its closures and channels, so a struct of them would be made and taken apart at once.
 fn reach<G: Grading, N: Network>(
     network: &N,
     closures: &[u8],
@@ -89,7 +89,7 @@ fn reach<G: Grading, N: Network>(
     requires end { t < (N.Network.net network.now).points }
     ensures answer { numbered result ≡ or_no_run (judged (place_questions (N.Network.net network.now) closures.now (length table.old)) (slice_index_or (open_table G.Grading.ops (N.Network.net network.now) closures.now g s) t None)) }
     ensures table { table.new ≡ table_after G.Grading.ops (place_questions (N.Network.net network.now) closures.now (length table.old)) (N.Network.net network.now) closures.now g s table.old }
-    ensures best { all_yes (place_questions (N.Network.net network.now) closures.now (length table.old)) ≡ true → (v : ℕ) → v < (N.Network.net network.now).points → BestAt G.Grading.ops (seen_at (N.Network.net network.now) closures.now g) (OpenLine (N.Network.net network.now) closures.now g) s v (slice_index_or table.new v None) }
+    ensures best { all_yes (place_questions (N.Network.net network.now) closures.now (length table.old)) ≡ true → HoldsBest G.Grading.ops (seen_at (N.Network.net network.now) closures.now g) (OpenLine (N.Network.net network.now) closures.now g) (N.Network.net network.now).points s table.new }
     ensures says { all_yes (place_questions (N.Network.net network.now) closures.now (length table.old)) ≡ true → Says G.Grading.ops (N.Network.net network.now) closures.now g s t (numbered result) }
 {
     let arcs = Arcs::new(network, closures, g)?;

@@ -14,6 +14,8 @@ pub trait Tariff {
     ghost priced: { (x : Self) → Priced (prices x) };
 
     /// The price of a line with these charges.
+    // Stays: each tariff tests the ranges, since a method for charges in range alone would have a requires, as no public method has.
+    // Stays: it is a rule of the project that no question refuses, so a price out of range is 0.
     fn price(&self, charges: Charges) -> u32
         ensures { result ≡ prices self.now charges };
 }

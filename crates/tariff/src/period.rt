@@ -50,6 +50,7 @@ impl Period {
         Ok(())
     }
 
+    // Stays: periods and classes are numbers where they come from, and an enum would ask more of callers.
     /// Sets the weight of a period (the row) and a class, or refuses with 8 and changes nothing. After it a line of that
     /// class costs by the new weight while the tariff is in that period.
     pub fn set_weight(&mut self, row: u32, class: u32, weight: u32) -> Result<(), Refusal>

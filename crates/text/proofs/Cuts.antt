@@ -2,6 +2,7 @@
 use Rattle.std.proofs.Common.{◌≡◌, ℕ, ◌+◌, ◌<◌, Bool, true, false, cond, eqb, List, [], ◌∷◌, ◌++◌, length, Option, Some, None, sym, refl, ap, ◌∙◌, subst, arith}
 use Rattle.std.proofs.lemmas.List.{nil_from_length}
 use Rattle.std.proofs.lemmas.Bool.{eqb-true, eq-eqb, both_ways}
+use Rattle.std.proofs.lemmas.Option.{none-some, same_Some}
 use Rattle.text.specs.declared.token.Kind.{Kind}
 use Rattle.text.specs.Items.{Item, class, goes_on, before, items}
 use Rattle.text.specs.Tokens.{OfKind, Stops, Stands, Cuts}
@@ -13,22 +14,15 @@ spaced : (n b : ℕ) (bs : List ℕ) (ts : List Item) → class b ≡ None → C
 spaced n b bs [] e c = (e, c)
 spaced n b bs (t ∷ ts) e c = (b ∷ c.0, c.1, ap (λ xs. b ∷ xs) c.2, (e, c.3), omega (arith, c.4), c.5, c.6)
 
--- a kind is not that of a space
-no_space : (k : Kind) → ◌≡◌ {A = Option Kind} (Some k) None → ⊥
-no_space k e = cc
-
 -- spaces do not go on with another kind
 past_spaces : (k : Kind) (bs : List ℕ) → OfKind None bs → Stops k bs
 past_spaces k [] h = tt
-past_spaces k (b ∷ bs) h = λ e. absurd (no_space k (sym e ∙ h.0))
-
-same_some : (j k : Kind) → ◌≡◌ {A = Option Kind} (Some j) (Some k) → j ≡ k
-same_some j k e = cc
+past_spaces k (b ∷ bs) h = λ e. absurd (none-some k (sym h.0 ∙ e))
 
 -- a token of another kind does not either
 past_other : (k j : Kind) (w rest : List ℕ) → (j ≡ k → ⊥) → 0 < length w → OfKind (Some j) w → Stops k (w ++ rest)
 past_other k j [] rest d l h = absurd (omega arith)
-past_other k j (b ∷ w) rest d l h = λ e. d (same_some j k (sym h.0 ∙ e))
+past_other k j (b ∷ w) rest d l h = λ e. d (same_Some j k (sym h.0 ∙ e))
 
 -- nor do spaces or none, and then a token that was not joined
 past_both : (k : Kind) (n : ℕ) (t : Item) (spaces rest : List ℕ) → goes_on k k ≡ true → cond (goes_on k t.kind) (eqb t.place n) false ≡ false → OfKind None spaces → t.place ≡ n + length spaces → Stands t rest → Stops k (spaces ++ (t.bytes ++ rest))
@@ -39,7 +33,7 @@ past_both k n t [] rest g v h p u = past_other k t.kind t.bytes rest differs u.s
         let q : eqb t.place n ≡ true = eq-eqb t.place n (omega (arith, p)) in
         let same : cond (goes_on k t.kind) (eqb t.place n) false ≡ true = ap (λ (j : Kind). cond (goes_on k j) (eqb t.place n) false) e ∙ ap (λ (b : Bool). cond b (eqb t.place n) false) g ∙ q in
         both_ways _ v same
-past_both k n t (b ∷ spaces) rest g v h p u = λ e. absurd (no_space k (sym e ∙ h.0))
+past_both k n t (b ∷ spaces) rest g v h p u = λ e. absurd (none-some k (sym h.0 ∙ e))
 
 -- a token of one byte, before what does not go on with it
 alone : (k : Kind) (n b : ℕ) (bs : List ℕ) → class b ≡ Some k → (goes_on k k ≡ true → Stops k bs) → Stands (record { kind = k; place = n; bytes = b ∷ [] }) bs

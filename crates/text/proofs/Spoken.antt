@@ -5,7 +5,7 @@ use Rattle.text.specs.declared.commands.Command.{Command}
 use Rattle.text.specs.declared.commands.Command.TheVariants.{Fastest as fastest, Widest as widest}
 use Rattle.text.specs.declared.fault.CharCause.{CharCause}
 use Rattle.text.specs.declared.fault.CharCause.TheVariants.{TooLong}
-use Rattle.text.specs.declared.fault.CharFault.{CharFault}
+use Rattle.text.specs.declared.fault.At.{At}
 use Rattle.text.specs.declared.fault.FormFault.{FormFault}
 use Rattle.text.specs.declared.fault.FormFault.TheVariants.{Chars, Form}
 use Rattle.text.specs.declared.fault.TextFault.{TextFault}
@@ -40,7 +40,7 @@ spoken_after was mid is b p r h o v =
 
 form_fault : (f : FormFault) → ordered (form_out f) ≡ Err (fault_of (Forms f))
 form_fault (Chars f) = refl
-form_fault (Form q p) = refl
+form_fault (Form f) = refl
 
 -- a whole command text
 pub told_command : (text : List ℕ) (x : Command) → length text ≤ 65536 → Whole (left_of text) (Ok x) → commanded text ≡ Ok x
@@ -51,7 +51,7 @@ told_command text x h w =
 pub told_fault : (text : List ℕ) (f : FormFault) → length text ≤ 65536 → Whole (left_of text) (Err f) → commanded text ≡ Err (fault_of (Forms f))
 told_fault text f h w = ap ordered (from_start (start new_draft) command_slots text h ∙ w (start new_draft)) ∙ form_fault f
 
-pub told_too_long : (text : List ℕ) (f : CharFault) → 65536 < length text → f.cause ≡ TooLong → f.place ≡ 65536 → commanded text ≡ Err (fault_of (Forms (Chars f)))
+pub told_too_long : (text : List ℕ) (f : At CharCause) → 65536 < length text → f.cause ≡ TooLong → f.place ≡ 65536 → commanded text ≡ Err (fault_of (Forms (Chars f)))
 told_too_long text f h c p =
     let faults : Fault → Result Command Fault = λ x. Err x in
     ap ordered (too_long (start new_draft) command_slots text h) ∙ sym (ap (λ (x : CharCause). faults (record { number = char_number x; place = f.place })) c ∙ ap (λ (x : ℕ). faults (record { number = 1; place = x })) p)

@@ -6,7 +6,7 @@ use Rattle.network.specs.Net.{Net}
 use Rattle.network.specs.Refusals.{answered, left_by}
 use Rattle.text.specs.declared.fault.CharCause.{CharCause}
 use Rattle.text.specs.declared.fault.CharCause.TheVariants.{TooLong}
-use Rattle.text.specs.declared.fault.CharFault.{CharFault}
+use Rattle.text.specs.declared.fault.At.{At}
 use Rattle.text.specs.declared.fault.FormFault.TheVariants.{Chars, Form}
 use Rattle.text.specs.declared.fault.TextFault.{TextFault}
 use Rattle.text.specs.declared.fault.TextFault.TheVariants.{Forms, List as InList}
@@ -29,7 +29,7 @@ too_long c ss text h = ap (λ b. cond b (run c (length text) ss (items 0 text)) 
 
 out_fault : (f : TextFault) → outcome (text_out f) ≡ Err (fault_of f)
 out_fault (Forms (Chars f)) = refl
-out_fault (Forms (Form q p)) = refl
+out_fault (Forms (Form f)) = refl
 out_fault (InList f) = refl
 
 pub read_fault : (d : Net) (text : List ℕ) (f : TextFault) → answer (start d) list_slots text ≡ text_out f → reading d text ≡ Err (fault_of f)
@@ -63,7 +63,7 @@ told d is left text (Ok v) h w k = let q = told_ok d is text v h w in (sym (ap a
 told d is left text (Err f) h w k = let q = told_err d is text f h w in (sym (ap answered q), k ∙ sym (ap (left_by d) q))
 
 -- a text that is too long is answered, and the draft is left
-pub told_long : (d : Net) (text : List ℕ) (f : CharFault) (r : Result (Unit {0}) TextFault) → r ≡ Err (Forms (Chars f)) → 65536 < length text → f.cause ≡ TooLong → f.place ≡ 65536 → (faulted r ≡ answered (reading d text)) × (d ≡ left_by d (reading d text))
+pub told_long : (d : Net) (text : List ℕ) (f : At CharCause) (r : Result (Unit {0}) TextFault) → r ≡ Err (Forms (Chars f)) → 65536 < length text → f.cause ≡ TooLong → f.place ≡ 65536 → (faulted r ≡ answered (reading d text)) × (d ≡ left_by d (reading d text))
 told_long d text f r e h c p =
     let q : reading d text ≡ Err (record { number = 1; place = 65536 }) = ap outcome (too_long (start d) list_slots text h) in
     let faults : Fault → Result (Unit {0}) Fault = λ x. Err x in

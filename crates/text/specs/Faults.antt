@@ -25,11 +25,11 @@ form_number Number = 4
 -- A fault of the code, as what a pass ends with.
 abbrev pub form_out : FormFault → Out
 form_out (Chars f) = fault (char_number f.cause) f.place
-form_out (Form q p) = fault (form_number q) p
+form_out (Form f) = fault (form_number f.cause) f.place
 
 abbrev pub text_out : TextFault → Out
 text_out (Forms f) = form_out f
-text_out (List f) = fault (number_of f.refusal) f.place
+text_out (List f) = fault (number_of f.cause) f.place
 
 -- The layer of a fault by its number: 1 and 2 are of the characters, 3 and 4 of the forms, the others of the list.
 abbrev pub layer_of : ℕ → Layer

@@ -16,8 +16,8 @@ pub record Fault : Type 0 where
 -- The number and place of a fault of the code.
 abbrev pub fault_of : TextFault → Fault
 fault_of (Forms (Chars f)) = record { number = char_number f.cause; place = f.place }
-fault_of (Forms (Form q p)) = record { number = form_number q; place = p }
-fault_of (InList f) = record { number = number_of f.refusal; place = f.place }
+fault_of (Forms (Form f)) = record { number = form_number f.cause; place = f.place }
+fault_of (InList f) = record { number = number_of f.cause; place = f.place }
 
 -- A result with its fault as number and place.
 abbrev pub faulted : {A : Type 0} → Result A TextFault → Result A Fault

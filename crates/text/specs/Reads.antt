@@ -4,10 +4,10 @@ use Rattle.network.specs.declared.line.Line.{Line as NetLine}
 use Rattle.network.specs.declared.line.Terms.{Terms}
 use Rattle.network.specs.declared.refusal.Refusal.{Refusal}
 use Rattle.network.specs.Net.{Net}
+use Rattle.text.specs.declared.fault.At.{At}
+use Rattle.text.specs.declared.fault.CharCause.{CharCause}
 use Rattle.text.specs.declared.fault.CharCause.TheVariants.{TooLong}
-use Rattle.text.specs.declared.fault.CharFault.{CharFault}
 use Rattle.text.specs.declared.fault.FormFault.{FormFault}
-use Rattle.text.specs.declared.fault.ListFault.{ListFault}
 use Rattle.text.specs.declared.fault.TextFault.{TextFault}
 use Rattle.text.specs.declared.token.Kind.TheVariants.{Bad, Open, Close, Newline}
 use Rattle.text.specs.declared.token.Token.{Token}
@@ -25,9 +25,9 @@ abbrev pub pass : Seen → List Slot → Left → Out
 pass c ss left = run c left.size ss left.items
 
 -- A judgement with its place in the text.
-abbrev pub at_place : Result (Unit {0}) Refusal → ℕ → Result (Unit {0}) ListFault
+abbrev pub at_place : Result (Unit {0}) Refusal → ℕ → Result (Unit {0}) (At Refusal)
 at_place (Ok v) p = Ok v
-at_place (Err e) p = Err (record { refusal = e; place = p })
+at_place (Err e) p = Err (record { cause = e; place = p })
 
 -- A token was taken.
 pub record Takes (was : Left) (r : Result Token FormFault) (is : Left) : Type 0 where
@@ -86,9 +86,12 @@ pub record Chosen (a b : Name) (was : Left) (r : Result (Bool × ℕ) FormFault)
       (λ f. (c : Seen) (s : Slot) (ss : List Slot) → two_words s ≡ Some (a, b) → pass c (s ∷ ss) was ≡ form_out f)
 
 -- The slots `front` were filled, and nothing is left.
-abbrev pub Ends : List Slot → Left → Result (Unit {0}) FormFault → Type 0
-Ends front was (Ok v) = (c : Seen) → pass c front was ≡ read c
-Ends front was (Err f) = (c : Seen) → pass c front was ≡ form_out f
+pub record Ends (front : List Slot) (was : Left) (r : Result (Unit {0}) FormFault) (is : Left) : Type 0 where
+  pub same : is.size ≡ was.size
+  pub reads :
+      MatchResult r
+      (λ v. (c : Seen) → pass c front was ≡ read c)
+      (λ f. (c : Seen) → pass c front was ≡ form_out f)
 
 -- The same as `Reads` one layer up, where what was seen is known to meet `known`, and what was read leads on to the slots `back`.
 pub record Leads {V : Type 0} (known : Seen → Type 0) (back : V → List Slot → List Slot) (front : List Slot → List Slot) (sees : Seen → V → Seen) (was : Left) (r : Result V TextFault) (is : Left) : Type 0 where
@@ -174,6 +177,6 @@ Whole old new was (Ok v) = (c : Seen) → c.net ≡ old → (e : Seen) × (pass 
 Whole old new was (Err f) = (c : Seen) → c.net ≡ old → pass c list_slots was ≡ text_out f
 
 -- A text is not too long, or it is.
-abbrev pub Sized : List ℕ → Result (Unit {0}) CharFault → Type 0
+abbrev pub Sized : List ℕ → Result (Unit {0}) (At CharCause) → Type 0
 Sized text (Ok v) = length text ≤ 65536
 Sized text (Err f) = (65536 < length text) × (f.cause ≡ TooLong) × (f.place ≡ 65536)

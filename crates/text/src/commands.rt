@@ -25,6 +25,7 @@ pub enum Command {
     Widest { from: u32, to: u32 },
 }
 
+// Stays: one type for both readers would let a list be read with the methods of commands.
 /// Reads command forms.
 #[derive(Drop)]
 struct CommandReader<'a> {
@@ -71,6 +72,7 @@ impl<'a> CommandReader<'a> {
     }
 
     /// A command from its word on, up to its closing bracket.
+    // Stays: which command it is says what is read next, and closures would be no plainer.
     fn order(&mut self) -> Result<Command, FormFault>
         ensures spoken { Spoken self.old result self.new }
     {

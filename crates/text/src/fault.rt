@@ -1,6 +1,6 @@
 //! Why a text is refused, layer by layer: each layer has the faults of the layer below it and its own.
 ghost use Rattle.std.specs.Prelude.{◌≡◌, Some};
-ghost use Rattle.text.specs.Faults.{char_number, form_number, layer_of};
+ghost use Rattle.text.specs.Faults.{layer_of};
 ghost use Rattle.text.specs.Listing.{fault_of, fault_text};
 ghost use Rattle.text.specs.declared.fault.FormFault.TheVariants.{Chars};
 ghost use Rattle.text.specs.declared.fault.TextFault.TheVariants.{Forms, List};
@@ -18,10 +18,10 @@ pub enum CharCause {
     BadByte = 2,
 }
 
-/// A fault of the first layer, the characters.
+/// A cause of a layer, and the place of the byte at fault.
 #[derive(Clone, Copy, PartialEq, Eq, Debug)]
-pub struct CharFault {
-    pub cause: CharCause,
+pub struct At<C> {
+    pub cause: C,
     pub place: usize,
 }
 
@@ -37,25 +37,18 @@ pub enum FormCause {
 /// A fault up to the second layer, the forms.
 #[derive(Clone, Copy, PartialEq, Eq, Debug)]
 pub enum FormFault {
-    Chars(CharFault),
-    Form(FormCause, usize),
+    Chars(At<CharCause>),
+    Form(At<FormCause>),
 }
 
-/// What the draft refuses, at its place in the text.
-#[derive(Clone, Copy, PartialEq, Eq, Debug)]
-pub struct ListFault {
-    pub refusal: Refusal,
-    pub place: usize,
-}
-
-/// A fault up to the third layer, the list.
+/// A fault up to the third layer, the list, where the draft refuses.
 #[derive(Clone, Copy, PartialEq, Eq, Debug)]
 pub enum TextFault {
     Forms(FormFault),
-    List(ListFault),
+    List(At<Refusal>),
 }
 
-/// The layer that finds a fault, by its number.
+/// The layer that a fault is of, by its number.
 #[derive(Clone, Copy, PartialEq, Eq, Debug)]
 pub enum Layer {
     /// The characters of the text.
@@ -67,10 +60,10 @@ pub enum Layer {
 }
 
 // Stays: clauses need each `from_gives`, and a derived From has no contract.
-impl From<CharFault> for FormFault {
+impl From<At<CharCause>> for FormFault {
     ghost from_gives = { λ e r. r ≡ Chars e };
 
-    fn from(e: CharFault) -> FormFault {
+    fn from(e: At<CharCause>) -> FormFault {
         FormFault::Chars(e)
     }
 }
@@ -83,47 +76,32 @@ impl From<FormFault> for TextFault {
     }
 }
 
-impl From<CharFault> for TextFault {
+impl From<At<CharCause>> for TextFault {
     ghost from_gives = { λ e r. r ≡ Forms (Chars e) };
 
-    fn from(e: CharFault) -> TextFault {
+    fn from(e: At<CharCause>) -> TextFault {
         TextFault::Forms(FormFault::Chars(e))
     }
 }
 
-impl From<ListFault> for TextFault {
+impl From<At<Refusal>> for TextFault {
     ghost from_gives = { λ e r. r ≡ List e };
 
-    fn from(e: ListFault) -> TextFault {
+    fn from(e: At<Refusal>) -> TextFault {
         TextFault::List(e)
-    }
-}
-
-impl CharCause {
-    fn number(self) -> u32
-        ensures { result ≡ char_number self }
-    {
-        self as u32
-    }
-}
-
-impl FormCause {
-    fn number(self) -> u32
-        ensures { result ≡ form_number self }
-    {
-        self as u32
     }
 }
 
 impl TextFault {
     /// The number of the question that failed.
+    // Stays: `place` matches likewise, but the causes have three types, so that no pattern binds them all, and it reads another field.
     pub fn number(&self) -> u32
         ensures { result ≡ (fault_of self.now).number }
     {
         match self {
-            TextFault::Forms(FormFault::Chars(f)) => f.cause.number(),
-            TextFault::Forms(FormFault::Form(cause, _)) => cause.number(),
-            TextFault::List(f) => f.refusal.number(),
+            TextFault::Forms(FormFault::Chars(f)) => f.cause as u32,
+            TextFault::Forms(FormFault::Form(f)) => f.cause as u32,
+            TextFault::List(f) => f.cause.number(),
         }
     }
 
@@ -133,12 +111,13 @@ impl TextFault {
     {
         match self {
             TextFault::Forms(FormFault::Chars(f)) => f.place,
-            TextFault::Forms(FormFault::Form(_, place)) => *place,
+            TextFault::Forms(FormFault::Form(f)) => f.place,
             TextFault::List(f) => f.place,
         }
     }
 
-    /// The layer that found it.
+    /// The layer that the question is of.
+    // Stays: the layer is a rule on the number, whoever found the fault: the draft's refusal 4 is of the forms.
     pub fn layer(&self) -> Layer
         ensures { result ≡ layer_of (fault_of self.now).number }
     {

@@ -4,7 +4,7 @@ ghost use Rattle.text.specs.Grammar.{done, field, line_from, lined, mark, noted,
 ghost use Rattle.text.specs.Left.{left_of};
 ghost use Rattle.text.specs.Reads.{Chosen, Counts, Ends, Reads, Takes};
 
-use crate::fault::{FormCause, FormFault};
+use crate::fault::{At, FormCause, FormFault};
 use crate::lexer::Lexer;
 use crate::token::{Kind, Token};
 use crate::words::{Name, name_of};
@@ -42,7 +42,7 @@ impl<'a> FormReader<'a> {
     {
         self.lexer
             .next()?
-            .ok_or(FormFault::Form(FormCause::Grammar, self.lexer.len()))
+            .ok_or(fault(FormCause::Grammar, self.lexer.len()))
     }
 
     /// A bracket or a newline.
@@ -53,7 +53,7 @@ impl<'a> FormReader<'a> {
         if t.kind == kind {
             Ok(())
         } else {
-            Err(FormFault::Form(FormCause::Grammar, t.place))
+            Err(fault(FormCause::Grammar, t.place))
         }
     }
 
@@ -65,7 +65,7 @@ impl<'a> FormReader<'a> {
         if t.kind == Kind::Word && name_of(t.bytes) == Some(name) {
             Ok(())
         } else {
-            Err(FormFault::Form(FormCause::Grammar, t.place))
+            Err(fault(FormCause::Grammar, t.place))
         }
     }
 
@@ -75,10 +75,10 @@ impl<'a> FormReader<'a> {
     {
         let t = self.token()?;
         if t.kind != Kind::Number {
-            return Err(FormFault::Form(FormCause::Grammar, t.place));
+            return Err(fault(FormCause::Grammar, t.place));
         }
         if t.bytes.len() > 10 {
-            return Err(FormFault::Form(FormCause::Number, t.place));
+            return Err(fault(FormCause::Number, t.place));
         }
         Ok((value(t.bytes), t.place))
     }
@@ -89,10 +89,10 @@ impl<'a> FormReader<'a> {
         ensures reads { Reads (λ ss. number lo hi ∷ ss) noted self.old result self.new }
     {
         let (v, place) = self.digits()?;
-        if u64::from(lo) <= v && v <= u64::from(hi) {
+        if (u64::from(lo)..=u64::from(hi)).contains(&v) {
             Ok(v as u32)
         } else {
-            Err(FormFault::Form(FormCause::Number, place))
+            Err(fault(FormCause::Number, place))
         }
     }
 
@@ -122,7 +122,7 @@ impl<'a> FormReader<'a> {
                 return Ok((false, t.place));
             }
         }
-        Err(FormFault::Form(FormCause::Grammar, t.place))
+        Err(fault(FormCause::Grammar, t.place))
     }
 
     /// The newline that ends a line's form.
@@ -134,18 +134,19 @@ impl<'a> FormReader<'a> {
     }
 
     /// Nothing more.
+    // Stays: an item is the fault and none is right, for which no method is plainer than the match.
     pub(crate) fn end(&mut self) -> Result<(), FormFault>
-        ensures ends { Ends [] self.old result }
+        ensures ends { Ends [] self.old result self.new }
     {
         match self.lexer.next()? {
-            Some(t) => Err(FormFault::Form(FormCause::Grammar, t.place)),
+            Some(t) => Err(fault(FormCause::Grammar, t.place)),
             None => Ok(()),
         }
     }
 
     /// What follows the word end: its bracket, its newline, and nothing more.
     pub(crate) fn finish(&mut self) -> Result<(), FormFault>
-        ensures ends { Ends (mark Kind.Close ∷ mark Kind.Newline ∷ []) self.old result }
+        ensures ends { Ends (mark Kind.Close ∷ mark Kind.Newline ∷ []) self.old result self.new }
     {
         self.mark(Kind::Close)?;
         self.mark(Kind::Newline)?;
@@ -153,7 +154,14 @@ impl<'a> FormReader<'a> {
     }
 }
 
-// Stays: the closure of a fold sees the number so far and not the count of digits, which is what bounds it.
+/// A fault of the grammar.
+fn fault(cause: FormCause, place: usize) -> FormFault
+    ensures { result ≡ FormFault.Form (record { cause = cause; place = place }) }
+{
+    FormFault::Form(At { cause, place })
+}
+
+// Stays: a fold was tried, and its bound did not close, since the closure sees the number so far and not the count of digits.
 /// The number that at most ten digits write.
 fn value(bytes: &[u8]) -> u64
     requires { length bytes.now ≤ 10 }

@@ -1,7 +1,7 @@
 //! The lexer: how far it is in the text, and the run of bytes that it is in, if it is in one.
 ghost use Rattle.std.specs.Prelude.{◌≤◌, length};
 
-use crate::fault::{CharCause, CharFault};
+use crate::fault::{At, CharCause};
 use crate::token::{Kind, Token};
 
 /// Cuts a text into tokens, one at a time.
@@ -94,12 +94,12 @@ impl<'a> Lexer<'a> {
     }
 
     /// The next token, or none at the text's end; a bad byte is a fault.
-    pub(crate) fn next(&mut self) -> Result<Option<Token<'a>>, CharFault>
+    pub(crate) fn next(&mut self) -> Result<Option<Token<'a>>, At<CharCause>>
         ensures text { self.new.text.now ≡ self.old.text.now }
         ensures next { Next (to_come self.old) result (to_come self.new) }
     {
         match self.raw() {
-            Some(t) if t.kind == Kind::Bad => Err(CharFault {
+            Some(t) if t.kind == Kind::Bad => Err(At {
                 cause: CharCause::BadByte,
                 place: t.place,
             }),

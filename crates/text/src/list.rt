@@ -6,7 +6,7 @@ ghost use Rattle.text.specs.Left.{left_of};
 ghost use Rattle.text.specs.Grammar.{form, mark, noted, points, pointed, tip, line_slots};
 ghost use Rattle.text.specs.Reads.{Begins, Grown, HasNet, Leads, Whole, at_place, line_seen, turned, turn_seen, turn_slots, Lists, Many, Reads, ends_seen, formed, form_slots, left_with, points_slots, terms_seen, terms_slots};
 
-use crate::fault::{FormFault, ListFault, TextFault};
+use crate::fault::{At, FormFault, TextFault};
 use crate::forms::FormReader;
 use crate::token::Kind;
 use crate::words::Name;
@@ -14,10 +14,10 @@ use network::{Charges, Draft, Line, Refusal, Terms};
 use std::marker::Model;
 
 /// What the draft says of a number, at the place of its first digit.
-fn placed(judged: Result<(), Refusal>, place: usize) -> Result<(), ListFault>
+fn placed(judged: Result<(), Refusal>, place: usize) -> Result<(), At<Refusal>>
     ensures { result ≡ at_place judged place }
 {
-    judged.map_err(|refusal| ListFault { refusal, place })
+    judged.map_err(|cause| At { cause, place })
 }
 
 // Stays: the draft is a parameter and no field, since a struct with a `&mut` needs one clause more in each contract.
@@ -57,6 +57,7 @@ impl<'a> ListReader<'a> {
     }
 
     /// An end of a line.
+    // Stays: that an end is below the point count is said of one end, of two and of a line, so a name for it would be three.
     fn tip(&mut self, draft: &Draft) -> Result<u32, TextFault>
         ensures below { IfOk result (λ v. v < (drawn draft.now).points) }
         ensures lists { Lists (HasNet (drawn draft.now)) (λ ss. tip ∷ ss) noted self.old result self.new }

@@ -11,7 +11,7 @@ ghost use Rattle.text.specs.Rule.{Earliest};
 ghost use Rattle.text.specs.Shapes.{Listed};
 ghost use Rattle.text.specs.Tokens.{Cuts};
 
-use crate::fault::{CharCause, CharFault, TextFault};
+use crate::fault::{At, CharCause, TextFault};
 use crate::list::ListReader;
 use network::Draft;
 
@@ -37,11 +37,11 @@ pub fn read_list(text: &[u8], draft: &mut Draft) -> Result<(), TextFault>
 }
 
 /// Refuses a text of more than 65,536 bytes.
-pub(crate) fn sized(text: &[u8]) -> Result<(), CharFault>
+pub(crate) fn sized(text: &[u8]) -> Result<(), At<CharCause>>
     ensures { Sized text.now result }
 {
     if text.len() > 65_536 {
-        Err(CharFault {
+        Err(At {
             cause: CharCause::TooLong,
             place: 65_536,
         })

@@ -1,43 +1,56 @@
-use Rattle.std.proofs.Common.{◌≡◌, ◌+◌, false, length, get_or, Some, None, sym, ap, ◌∙◌, subst, arith}
+use Rattle.std.proofs.Common.{◌≡◌, ◌+◌, ◌<◌, false, [], ◌∷◌, ◌++◌, length, get_or, min, None, sym, ap, ◌∙◌, subst, arith}
+use Rattle.std.proofs.iter.Yields.{fronts}
 use Rattle.std.proofs.lemmas.Bool.{both_ways}
-use Rattle.std.proofs.lemmas.List.{length_push}
-use Rattle.sweep.specs.Front.{Picked, better}
-use Rattle.sweep.proofs.Numbered.{numbered_turn, numbered_end}
+use Rattle.std.proofs.lemmas.Iterator.{zips, YieldsList, YieldsList-from_slice, YieldsList-from_zip}
+use Rattle.std.proofs.lemmas.Iterator.Consumers.{YieldsList-turn, YieldsList-end, YieldsList-from_enumerate}
+use Rattle.std.proofs.lemmas.List.{length_push, get_or_read}
+use Rattle.std.proofs.lemmas.List.FromFn.{length-enumerate_from, get_or-enumerate_from}
+use Rattle.std.proofs.lemmas.Slice.Zip.{length-zip, get_or-zip}
+use Rattle.std.specs.Iterator.Adapters.{enumerate_steps}
+use Rattle.std.specs.List.{enumerate_from, zip}
+use Rattle.sweep.specs.Front.{Picked}
 use Rattle.sweep.proofs.Picks.{picked_pass, picked_take}
 use Rattle.sweep.proofs.table.pick.Goals as goal
-use Rattle.sweep.proofs.table.pick.Goals.{else-not-done-via-else-not-done, else-not-done-via-then-not-done+in-None-1}
+use Rattle.sweep.proofs.table.pick.Goals.{After-next, In-Some, else-not-done-via-else-not-done, else-not-done-via-then-not-done+in-None-1}
+
+-- the loop goes over both slices side by side, numbered from 0
+chain : (g : _) (c : After-next g) → YieldsList (enumerate_steps (zips fronts fronts)) (λ p. (p.0, (p.1.0.now, p.1.1.now))) c.into_iter-v-iterator.result (enumerate_from 0 (zip c.args.done.now c.args.best.now))
+chain g c = YieldsList-from_enumerate (YieldsList-from_zip (YieldsList-from_slice _ (cc)) (YieldsList-from_slice _ (cc))) (cc)
+
+-- one more item has been yielded, which is that of the next point
+turn : (g : _) (c : In-Some g) → let n = length c.loop-v.yielded in (length (c.loop-v.yielded ++ ((c.in-Some.v, (c.in-Some.done, c.in-Some.value)) ∷ [])) ≡ n + 1) × (c.in-Some.v ≡ n) × (c.in-Some.done.now ≡ get_or c.args.done.now n false) × (c.in-Some.value.now ≡ get_or c.args.best.now n None)
+turn g c =
+    let ds = c.args.done.now in
+    let bs = c.args.best.now in
+    let n = length c.loop-v.yielded in
+    let q = YieldsList-turn (chain g (goal.at.In-Some g c).After-next) c.loop-v.yielded c.loop-v.v-iterator c.loop-v.yielded_by c.next.result c.next.new.self (c.in-Some.v, (c.in-Some.done, c.in-Some.value)) c.in-Some.is c.next.ensures.steps in
+    let few : n < min (length ds) (length bs) = omega (arith, q.0, length-enumerate_from 0 (zip ds bs), length-zip ds bs) in
+    let lds : n < length ds = omega arith in
+    let lbs : n < length bs = omega arith in
+    let at = q.1 ∙ get_or-enumerate_from 0 (zip ds bs) n _ (omega (arith, length-zip ds bs)) in
+    let both = ap (λ z. z.1) at ∙ get_or-zip ds bs n (c.in-Some.done.now, c.in-Some.value.now) lds lbs in (
+      length_push c.loop-v.yielded _,
+      ap (λ z. z.0) at ∙ (omega arith),
+      get_or_read ds n _ lds (ap (λ z. z.0) both) false,
+      get_or_read bs n _ lbs (ap (λ z. z.1) both) None,
+    )
 
 pub loop-v-preserved-in-loop-v : goal.loop-v-preserved-in-loop-v
 loop-v-preserved-in-loop-v g c =
-    let ds = c.args.done.now in
-    let bs = c.args.best.now in
-    let n = length c.loop-v.yielded in
-    let t = numbered_turn ds bs c.loop-v.yielded c.into_iter-v-iterator.result c.loop-v.v-iterator c.next.new.self c.next.result
-    c.into_iter-v-iterator.ensures.into_iter_gives c.enumerate-v-items.ensures.source c.enumerate-v-items.ensures.count c.zip.ensures.first c.iter.ensures.rest c.zip.ensures.second.0 c.loop-v.yielded_by (c.in-Some.v, (c.in-Some.done, c.in-Some.value)) c.in-Some.is c.next.ensures.steps in
-    let free = sym (t.3 false) ∙ c.if-not-done.true in
-    let has = sym (t.4 None) ∙ c.in-Some-value.is in
-    let step = picked_take g.met.G.Grading.lawful ds bs c.loop-v.found n c.in-Some-value.x c.loop-v.invariant free has in
-    let taken = c.first.ensures ∙ ap (λ v. better g.G.Grading.ops.le c.loop-v.found v c.in-Some-value.x) t.2 in
-    subst (λ m. Picked g.G.Grading.ops.le m ds bs (Some c.first.result)) (sym (length_push c.loop-v.yielded (c.in-Some.v, (c.in-Some.done, c.in-Some.value)))) (subst (λ f. Picked g.G.Grading.ops.le (n + 1) ds bs (Some f)) (sym taken) step)
+    let t = turn g (goal.at.loop-v-preserved-in-loop-v g c).In-Some in
+    rw (t.0, c.first.ensures, t.1) (picked_take g.met.G.Grading.lawful c.args.done.now c.args.best.now c.loop-v.found (length c.loop-v.yielded) c.in-Some-value.x c.loop-v.invariant (sym t.2 ∙ c.if-not-done.true) (sym t.3 ∙ c.in-Some-value.is))
 
 pub loop-v-preserved : goal.loop-v-preserved
 loop-v-preserved g c =
-    let ds = c.args.done.now in
-    let bs = c.args.best.now in
-    let n = length c.loop-v.yielded in
-    let t = numbered_turn ds bs c.loop-v.yielded c.into_iter-v-iterator.result c.loop-v.v-iterator c.next.new.self c.next.result
-    c.into_iter-v-iterator.ensures.into_iter_gives c.enumerate-v-items.ensures.source c.enumerate-v-items.ensures.count c.zip.ensures.first c.iter.ensures.rest c.zip.ensures.second.0 c.loop-v.yielded_by (c.in-Some.v, (c.in-Some.done, c.in-Some.value)) c.in-Some.is c.next.ensures.steps in
-    let none : get_or ds n false ≡ false → get_or bs n None ≡ None = elim c.else-not-done.branch [
-      | else-not-done-via-else-not-done w ↦ λ d. absurd (both_ways c.in-Some.done.now (t.3 false ∙ d) w.if-not-done.false)
-      | else-not-done-via-then-not-done+in-None-1 w ↦ λ d. sym (t.4 None) ∙ (cc)
+    let t = turn g (goal.at.loop-v-preserved g c).In-Some in
+    let none : get_or c.args.done.now (length c.loop-v.yielded) false ≡ false → get_or c.args.best.now (length c.loop-v.yielded) None ≡ None = elim c.else-not-done.branch [
+      | else-not-done-via-else-not-done w ↦ λ d. absurd (both_ways c.in-Some.done.now (t.2 ∙ d) w.if-not-done.false)
+      | else-not-done-via-then-not-done+in-None-1 w ↦ λ d. sym t.3 ∙ (cc)
     ] in
-    subst (λ m. Picked g.G.Grading.ops.le m ds bs c.loop-v.found) (sym (length_push c.loop-v.yielded (c.in-Some.v, (c.in-Some.done, c.in-Some.value)))) (picked_pass g.met.G.Grading.lawful ds bs c.loop-v.found n c.loop-v.invariant none)
+    rw t.0 (picked_pass g.met.G.Grading.lawful c.args.done.now c.args.best.now c.loop-v.found (length c.loop-v.yielded) c.loop-v.invariant none)
 
 pub returns : goal.returns
 returns g c =
-    let ds = c.args.done.now in
-    let bs = c.args.best.now in
-    let end = numbered_end ds bs c.loop-v.yielded c.into_iter-v-iterator.result c.loop-v.v-iterator c.next.new.self c.next.result
-    c.into_iter-v-iterator.ensures.into_iter_gives c.enumerate-v-items.ensures.source c.enumerate-v-items.ensures.count c.zip.ensures.first c.iter.ensures.rest c.zip.ensures.second.0 c.loop-v.yielded_by c.in-None.is c.next.ensures.steps in
-    let all : length c.loop-v.yielded ≡ length bs = omega arith in
-    subst (λ m. Picked g.G.Grading.ops.le m ds bs c.loop-v.found) all c.loop-v.invariant
+    let end = YieldsList-end (chain g (goal.at.returns g c).After-next) c.loop-v.yielded c.loop-v.v-iterator c.loop-v.yielded_by c.next.result c.next.new.self c.in-None.is c.next.ensures.steps in
+    let all : length c.loop-v.yielded ≡ length c.args.best.now = omega (arith, end.1, length-enumerate_from 0 (zip c.args.done.now c.args.best.now), length-zip c.args.done.now c.args.best.now) in
+    subst (λ m. Picked g.G.Grading.ops.le m c.args.done.now c.args.best.now c.loop-v.found) all c.loop-v.invariant

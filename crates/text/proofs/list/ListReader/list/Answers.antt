@@ -12,7 +12,7 @@ returns-in_err-finish-clause-whole c =
     let a = c.in_ok-points.ensures in
     let n = c.in_ok-points.field-0 in
     let b = c.in_ok-lines.ensures.many in
-    let e = rw c.self.view_is at c.in_err-finish.ensures.ends in
+    let e = rw c.self.view_is at c.in_err-finish.ensures.ends.reads in
     rw (p.1, p.2) (λ s k. let q = b.reads (pointed s n) (pointed_net s (drawn c.args.draft.now) (drawn c.points.new.draft) n k a.points a.held) in a.lists.reads s (mark Open ∷ form ∷ []) k ∙ q.1 ∙ e q.0)
 
 pub returns-clause-whole : goal.returns-clause-whole
@@ -20,5 +20,5 @@ returns-clause-whole c =
     let a = c.in_ok-points.ensures in
     let n = c.in_ok-points.field-0 in
     let b = c.in_ok-lines.ensures.many in
-    let e = rw c.self.view_is at c.in_ok-finish.ensures.ends in
+    let e = rw c.self.view_is at c.in_ok-finish.ensures.ends.reads in
     λ s k. let q = b.reads (pointed s n) (pointed_net s (drawn c.args.draft.now) (drawn c.points.new.draft) n k a.points a.held) in (q.0, a.lists.reads s (mark Open ∷ form ∷ []) k ∙ q.1 ∙ e q.0, q.2)
