@@ -17,12 +17,14 @@ fn newline(bytes: &[u8]) -> usize
 fn empty_line(input: &[u8]) -> usize
     ensures { result ≡ parting true input.now }
 {
-    if input.starts_with(b"\n") {
+    if input.is_empty() || input.starts_with(b"\n") {
         return 0;
     }
+    // `&` asks both without a branch between: a text of any length is gone through here.
     input
-        .windows(2)
-        .position(|pair| pair == b"\n\n".as_slice())
+        .iter()
+        .zip(&input[1..])
+        .position(|(a, b)| (*a == b'\n') & (*b == b'\n'))
         .map_or(input.len(), |before| before + 1)
 }
 

@@ -10,7 +10,14 @@ pub(crate) enum Stop {
     #[error("refused with number {}", .0.number())]
     Refused(#[from] Refusal),
     #[error("no memory")]
-    NoMemory(#[from(alloc)] AllocError),
+    NoMemory,
     #[error("no output: {0}")]
     NoOutput(#[from] io::Error),
+}
+
+// Stays: a derived From keeps the error that it is given, and the last line that the program prints would name it.
+impl From<AllocError> for Stop {
+    fn from(_none: AllocError) -> Stop {
+        Stop::NoMemory
+    }
 }

@@ -1,6 +1,7 @@
 pub mod Scans
 pub mod Same
 pub mod Cuts
+pub mod Named
 pub mod Slots
 pub mod Growing
 pub mod Order

@@ -110,8 +110,8 @@ marked : {G : Type 0} (k : Kind) (s : Shape) (f : (w : List ℕ) → shaped k w 
 marked k s f c n ss ts e h g = peel c n (mark k) ss ts e h (λ t us m a o. g us (headed (shape_of t) s _ _ m (mark_shape k t s f a)) o)
 
 -- a word
-worded : {G : Type 0} (w : Name) (c : Seen) (n : ℕ) (ss : List Slot) (ts : List Item) (e : Seen) → run c n (word w ∷ ss) ts ≡ read e → ((us : List Item) → map shape_of ts ≡ a_word (Some w) ∷ map shape_of us → run c n ss us ≡ read e → G) → G
-worded w c n ss ts e h g = peel c n (word w) ss ts e h (λ t us m a o. let b = both_true (is_word t.kind) (is w t) a in g us (headed (shape_of t) (a_word (Some w)) _ _ m (word_shape w t b.0 b.1)) o)
+worded : {G : Type 0} (w : Name) (c : Seen) (n : ℕ) (ss : List Slot) (ts : List Item) (e : Seen) → run c n (word (Some w) ∷ ss) ts ≡ read e → ((us : List Item) → map shape_of ts ≡ a_word (Some w) ∷ map shape_of us → run c n ss us ≡ read e → G) → G
+worded w c n ss ts e h g = peel c n (word (Some w)) ss ts e h (λ t us m a o. let b = both_true (is_word t.kind) (is w t) a in g us (headed (shape_of t) (a_word (Some w)) _ _ m (word_shape w t b.0 b.1)) o)
 
 -- a number in a range
 numbered : {G : Type 0} (lo hi : ℕ) (c : Seen) (n : ℕ) (ss : List Slot) (ts : List Item) (e : Seen) → run c n (number lo hi ∷ ss) ts ≡ read e → ((v : ℕ) (us : List Item) → map shape_of ts ≡ a_number v ∷ map shape_of us → run (noted c v) n ss us ≡ read e → G) → G
@@ -132,7 +132,7 @@ closed c n ss ts e h g = peel c n done ss ts e h (λ t us m a o. g us (headed (s
 -- an inner part
 parted : {G : Type 0} (w : Name) (lo hi : ℕ) (c : Seen) (n : ℕ) (ss : List Slot) (ts : List Item) (e : Seen) → run c n (field w lo hi ss) ts ≡ read e → ((v : ℕ) (us : List Item) → map shape_of ts ≡ part_shapes w v ++ map shape_of us → run (noted c v) n ss us ≡ read e → G) → G
 parted w lo hi c n ss ts e h g =
-    marked Open (a_mark Open) (λ _. refl) c n (word w ∷ number lo hi ∷ mark Close ∷ ss) ts e h (λ us₁ m₁ h₁.
+    marked Open (a_mark Open) (λ _. refl) c n (word (Some w) ∷ number lo hi ∷ mark Close ∷ ss) ts e h (λ us₁ m₁ h₁.
     worded w c n (number lo hi ∷ mark Close ∷ ss) us₁ e h₁ (λ us₂ m₂ h₂.
     numbered lo hi c n (mark Close ∷ ss) us₂ e h₂ (λ v us₃ m₃ h₃.
     marked Close (a_mark Close) (λ _. refl) (noted c v) n ss us₃ e h₃ (λ us₄ m₄ h₄.

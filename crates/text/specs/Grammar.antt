@@ -1,5 +1,5 @@
 -- The grammar of texts as slots that their tokens fill, the questions that each token must pass, and the one pass over them.
-use Rattle.std.specs.Prelude.{ℕ, ◌+◌, ◌-◌, ◌*◌, Bool, true, false, cond, List, [], ◌∷◌, ◌++◌, length, Option, ◌==◌, nat_le, nat_lt, slice_index}
+use Rattle.std.specs.Prelude.{ℕ, ◌+◌, ◌-◌, ◌*◌, Bool, true, false, cond, List, [], ◌∷◌, ◌++◌, length, Option, Some, ◌==◌, nat_le, nat_lt, slice_index}
 use Rattle.network.specs.declared.line.Line.{Line as NetLine}
 use Rattle.network.specs.Net.{Net, all_below}
 use Rattle.text.specs.declared.token.Kind.{Kind}
@@ -7,13 +7,13 @@ use Rattle.text.specs.declared.token.Kind.TheVariants.{Word, Number, Open, Close
 use Rattle.text.specs.declared.words.Name.{Name}
 use Rattle.text.specs.declared.words.Name.TheVariants.{Points, Line, End, Delay, Rate, Class, Room, Jitter, Loss, Fastest, Widest}
 use Rattle.text.specs.Items.{Item, is_word, is_number, items}
-use Rattle.text.specs.Names.{name_of, is_name}
+use Rattle.text.specs.Names.{name_of, is_name, same_name}
 
--- What may stand next: a bracket or newline; one word; the word line or end; a command's word; a number from lo to hi;
+-- What may stand next: a bracket or newline; the word with a name, or any word that has none; the word line or end; a command's word; a number from lo to hi;
 -- the point count; an end of a line; the newline that ends a line's form; nothing.
 pub data Slot : Type 0 where
   mark : Kind → Slot
-  word : Name → Slot
+  word : Option Name → Slot
   form : Slot
   command : Slot
   number : ℕ → ℕ → Slot
@@ -56,7 +56,7 @@ good_byte t = cond (code t.kind == code Bad) false true
 -- Question 3: does the token fit the slot?
 abbrev pub fits : Slot → Item → Bool
 fits (mark k) t = code t.kind == code k
-fits (word w) t = cond (is_word t.kind) (is w t) false
+fits (word w) t = cond (is_word t.kind) (same_name w (name_of t.bytes)) false
 fits form t = cond (is_word t.kind) (cond (is Line t) true (is End t)) false
 fits command t = cond (is_word t.kind) (cond (is Fastest t) true (is Widest t)) false
 fits (number lo hi) t = is_number t.kind
@@ -160,7 +160,7 @@ after c nothing t = c
 
 -- An inner part, as (delay 1).
 abbrev pub field : Name → ℕ → ℕ → List Slot → List Slot
-field w lo hi ss = mark Open ∷ word w ∷ number lo hi ∷ mark Close ∷ ss
+field w lo hi ss = mark Open ∷ word (Some w) ∷ number lo hi ∷ mark Close ∷ ss
 
 -- What follows the word line.
 abbrev pub line_slots : List Slot → List Slot
@@ -197,7 +197,7 @@ next nothing t ss = ss
 
 -- A list text: the points form, then line forms, then the end form, each on a line of its own.
 abbrev pub list_slots : List Slot
-list_slots = mark Open ∷ word Points ∷ points ∷ mark Close ∷ mark Newline ∷ mark Open ∷ form ∷ []
+list_slots = mark Open ∷ word (Some Points) ∷ points ∷ mark Close ∷ mark Newline ∷ mark Open ∷ form ∷ []
 
 -- A command text: one form.
 abbrev pub command_slots : List Slot

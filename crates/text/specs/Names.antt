@@ -1,5 +1,5 @@
 -- The words of texts.
-use Rattle.std.specs.Prelude.{◌≡◌, ℕ, Bool, false, cond, List, codes, Option, Some, None, ◌==◌, ◌≢◌}
+use Rattle.std.specs.Prelude.{◌≡◌, ℕ, Bool, true, false, cond, List, codes, Option, Some, None, ◌==◌, ◌≢◌}
 use Rattle.std.specs.Str.{bytes_eq}
 use Rattle.text.specs.declared.words.Name.{Name}
 use Rattle.text.specs.declared.words.Name.TheVariants.{Points, Line, End, Delay, Rate, Class, Room, Jitter, Loss, Fastest, Widest}
@@ -52,3 +52,9 @@ ordinal Widest = 10
 abbrev pub is_name : Name → Option Name → Bool
 is_name x None = false
 is_name x (Some y) = ordinal y == ordinal x
+
+-- Whether two words have the same name, or both none.
+abbrev pub same_name : Option Name → Option Name → Bool
+same_name None None = true
+same_name None (Some y) = false
+same_name (Some x) w = is_name x w

@@ -136,7 +136,7 @@ terms_slots ss = field Delay 0 1000000 (field Rate 0 10000 (field Class 0 7 (fie
 
 -- The slots of the points form.
 abbrev pub points_slots : List Slot → List Slot
-points_slots ss = mark Open ∷ word Points ∷ points ∷ mark Close ∷ mark Newline ∷ ss
+points_slots ss = mark Open ∷ word (Some Points) ∷ points ∷ mark Close ∷ mark Newline ∷ ss
 
 -- What follows the word line or end, and what has been seen after it.
 abbrev pub form_slots : Bool → List Slot → List Slot

@@ -1,5 +1,5 @@
 //! The form reader: tokens against the grammar, and numbers.
-ghost use Rattle.std.specs.Prelude.{◌≡◌, ◌≤◌, [], ◌∷◌, length, IfOk};
+ghost use Rattle.std.specs.Prelude.{◌≡◌, ◌≤◌, [], ◌∷◌, length, IfOk, Some};
 ghost use Rattle.text.specs.Grammar.{done, field, line_from, lined, mark, noted, number, value_of, word};
 ghost use Rattle.text.specs.Left.{left_of};
 ghost use Rattle.text.specs.Reads.{Chosen, Counts, Ends, Reads, Takes};
@@ -59,7 +59,7 @@ impl<'a> FormReader<'a> {
 
     /// The word that has this name.
     pub(crate) fn word(&mut self, name: Name) -> Result<(), FormFault>
-        ensures reads { Reads (λ ss. word name ∷ ss) (λ c v. c) self.old result self.new }
+        ensures reads { Reads (λ ss. word (Some name) ∷ ss) (λ c v. c) self.old result self.new }
     {
         let t = self.token()?;
         if t.kind == Kind::Word && name_of(t.bytes) == Some(name) {
