@@ -1,3 +1,3 @@
 pub mod Lines
 pub mod Pieces
-pub mod Pairs
+pub mod Empty
