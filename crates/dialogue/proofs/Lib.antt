@@ -1,3 +1,3 @@
 pub mod Lines
 pub mod Pieces
-pub mod Empty
+pub mod Pairs

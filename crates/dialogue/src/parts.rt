@@ -14,16 +14,18 @@ fn newline(bytes: &[u8]) -> usize
 }
 
 /// The place of the first empty line, or the length where there is none.
-// Stays: a line is cut off at a time, since neighbours side by side, by `windows` or by `zip`, took longer for each byte.
-#[tactic(auto, using(crate::proofs::Empty::parted))]
 fn empty_line(input: &[u8]) -> usize
     ensures { result ≡ parting true input.now }
 {
-    let mut rest = input;
-    while !rest.is_empty() && !rest.starts_with(b"\n") {
-        rest = around(rest, newline(rest)).1;
+    if input.is_empty() || input.starts_with(b"\n") {
+        return 0;
     }
-    input.len() - rest.len()
+    // `&` asks both without a branch between: a text of any length is gone through here.
+    input
+        .iter()
+        .zip(&input[1..])
+        .position(|(a, b)| (*a == b'\n') & (*b == b'\n'))
+        .map_or(input.len(), |before| before + 1)
 }
 
 /// The first `i` bytes, and what stands after the byte at `i`.
